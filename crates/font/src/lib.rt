@@ -1,0 +1,3 @@
+// The structs of a font pack.
+pub mod anchor;
+pub mod kern;

@@ -1,0 +1,5 @@
+// Byte stores that grow downwards.
+pub mod allocator;
+pub mod doubling;
+pub mod quota;
+pub mod still;

@@ -1,0 +1,89 @@
+-- What a call that writes is told: the first of its tests that fails refuses it.
+use mathlib.Core.Bool.{Bool, cond}
+use mathlib.Core.List.{List, [], _∷_}
+use Prim.Native.Nat.{ℕ, max}
+use lib.Dec.{ltb}
+use Rattle.std.specs.declared.result.Result.{Result}
+use Rattle.std.specs.declared.result.Result.the-variants.{Ok, Err}
+use Rattle.wire.specs.declared.refusal.Refusal.{Refusal}
+use Rattle.wire.specs.declared.refusal.Refusal.the-variants.{Finished, NotFinished, Nested, NotOpen, Slot, Identifier, Offset, Text, TableTooLarge, MissingSlot, TooLong, Store, Full}
+
+abbrev pub number : {E : Type 0} → Refusal E → ℕ
+number Finished = 1
+number NotFinished = 2
+number Nested = 3
+number NotOpen = 4
+number Slot = 5
+number Identifier = 6
+number Offset = 7
+number Text = 8
+number TableTooLarge = 9
+number MissingSlot = 10
+number TooLong = 11
+number (Store e) = 12
+number Full = 13
+
+-- a refusal without the store's own words
+abbrev pub Why : Type 0
+Why = Refusal (Unit {0})
+
+abbrev pub erased : {E : Type 0} → Refusal E → Why
+erased Finished = Finished
+erased NotFinished = NotFinished
+erased Nested = Nested
+erased NotOpen = NotOpen
+erased Slot = Slot
+erased Identifier = Identifier
+erased Offset = Offset
+erased Text = Text
+erased TableTooLarge = TableTooLarge
+erased MissingSlot = MissingSlot
+erased TooLong = TooLong
+erased (Store e) = Store tt
+erased Full = Full
+
+-- an answer without the store's own words
+abbrev pub told : {A E : Type 0} → Result A (Refusal E) → Result A Why
+told (Ok x) = Ok x
+told (Err e) = Err (erased e)
+
+-- P where the store was asked for space, else Q
+abbrev pub Asked : {A E : Type 0} → Result A (Refusal E) → Type 0 → Type 0 → Type 0
+Asked (Ok x) P Q = P
+Asked (Err Finished) P Q = Q
+Asked (Err NotFinished) P Q = Q
+Asked (Err Nested) P Q = Q
+Asked (Err NotOpen) P Q = Q
+Asked (Err Slot) P Q = Q
+Asked (Err Identifier) P Q = Q
+Asked (Err Offset) P Q = Q
+Asked (Err Text) P Q = Q
+Asked (Err TableTooLarge) P Q = Q
+Asked (Err MissingSlot) P Q = Q
+Asked (Err TooLong) P Q = Q
+Asked (Err (Store e)) P Q = P
+Asked (Err Full) P Q = P
+
+pub record Test : Type 0 where
+  pub fails : Bool
+  pub why : Why
+  -- the space that the store has to have, 0 where the test is of something else
+  pub room : ℕ
+
+abbrev pub _because_ : Bool → Why → Test
+b because r = record { fails = b; why = r; room = 0 }
+
+infixl 80 _because_
+
+-- the used space stays below 2 GiB
+abbrev pub too-much : ℕ → Test
+too-much n = ltb 2147483647 n because TooLong
+
+-- the store can hold it
+abbrev pub above : (n limit : ℕ) → Test
+above n limit = record { fails = ltb limit n; why = Store tt; room = n }
+
+-- the answer, unless a test fails
+abbrev pub decided : {A : Type 0} → List Test → A → Result A Why
+decided [] x = Ok x
+decided (t ∷ ts) x = cond (t .fails) (Err (t .why)) (decided ts x)

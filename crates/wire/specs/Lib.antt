@@ -1,0 +1,11 @@
+pub mod Bytes
+pub mod Words
+pub mod Kind
+pub mod Scalars
+pub mod Offsets
+pub mod Structs
+pub mod Pushed
+pub mod Layouts
+pub mod ReadBack
+pub mod Answers
+pub mod Utf8
