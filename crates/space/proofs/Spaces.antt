@@ -84,6 +84,46 @@ module _ {S E : Type 0} (list : S → List ℕ) (limit : S → ℕ) where
         limited = q .limited ∙ p .limited;
       }
 
+  -- The same of a loop that places bytes turn by turn: before its first turn the used count may still be too large.
+  pub record Laid (before after : Space S E) (bytes : List ℕ) : Type 0 where
+    pub fits : length bytes ≤ length (rest list before)
+    pub used : taken list after ≡ bytes ++ taken list before
+    pub unused : rest list after ≡ front (length bytes) (rest list before)
+    pub limited : limit (after .allocator) ≡ limit (before .allocator)
+
+  pub laid-none : (s : Space S E) → Laid s s []
+  laid-none s =
+      let xs = rest list s in
+      record { fits = omega arith; used = refl; unused = sym (take-all (length xs - 0) xs (omega arith)); limited = refl }
+
+  pub laid-rest : (before after : Space S E) (bytes : List ℕ) → Laid before after bytes → length (rest list after) + length bytes ≡ length (rest list before)
+  laid-rest before after bytes p =
+      omega (arith, p .fits, ap length (p .unused), length-front (length bytes) (rest list before))
+
+  pub laid-placed : (a b c : Space S E) (ok : Bool) (xs ys zs : List ℕ) → zs ≡ ys ++ xs → length zs ≤ length (rest list a)
+      → Laid a b xs → Placed list limit b c ok ys → Laid a c zs
+  laid-placed a b c ok xs ys zs is room p put =
+      let both : length zs ≡ length ys + length xs = ap length is ∙ length-append ys xs in
+      let q = placed-done b c ok ys (omega (arith, laid-rest a b xs p)) put in
+      record {
+        fits = room;
+        used = q .used ∙ ap (λ (us : List ℕ). ys ++ us) (p .used) ∙ sym (append-assoc ys xs (taken list a)) ∙ ap (λ (us : List ℕ). us ++ taken list a) (sym is);
+        unused =
+            q .unused ∙ ap (front (length ys)) (p .unused) ∙ front-front (length ys) (length xs) (rest list a)
+            ∙ ap (λ (n : ℕ). front n (rest list a)) (sym both);
+        limited = q .limited ∙ p .limited;
+      }
+
+  pub placed-laid : (before after : Space S E) (bytes : List ℕ) → Laid before after bytes → after .used ≡ length (taken list after) → Placed list limit before after true bytes
+  placed-laid before after bytes p settled =
+      record {
+        answer = sym (le-leb _ _ (omega (arith, p .fits, parts-length list before)));
+        settled = λ _. settled;
+        used = p .used;
+        unused = p .unused;
+        limited = p .limited;
+      }
+
   -- zero bytes before zero bytes
   pub placed-zeros : (a b c : Space S E) (ok : Bool) (bytes : List ℕ) (m n k : ℕ) → bytes ≡ zeros n → k ≡ n + m → n ≤ length (rest list b)
       → Placed list limit a b true (zeros m) → Placed list limit b c ok bytes → Placed list limit a c true (zeros k)

@@ -3,6 +3,7 @@ pub mod LittleEndian
 pub mod Laws
 pub mod Rows
 pub mod Conds
+pub mod Decided
 pub mod Walk
 pub mod WellFormed
 pub mod Longest

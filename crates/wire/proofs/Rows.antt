@@ -1,22 +1,22 @@
 -- What the law of a kind gives of a row of its values.
-use mathlib.Core.Path.{_≡_, refl, sym, ap, _∙_}
+use mathlib.Core.Path.{_≡_, refl, sym, ap, subst, _∙_}
 use mathlib.Core.Bool.{Bool, true, false, cond, _&&_}
 use mathlib.Core.List.{List, [], _∷_, _++_, map}
 use Prim.Native.Nat.{ℕ, zero, suc, _+_, _*_, _^_, _<_, _≤_}
-use native.Mathlib.Nat.{suc-mul, mul-le-mul-left}
+use native.Mathlib.Nat.{suc-mul, mul-le-mul-left, mul-le-mul-right}
 use native.Mathlib.Omega.{arith}
-use lib.Dec.{ltb}
-use lib.ListN.{length, getD}
+use lib.Dec.{T, ltb}
+use lib.ListN.{length, getD, drop, length-drop}
 use Rattle.std.specs.declared.option.Option.{Option}
 use Rattle.std.specs.declared.option.Option.the-variants.{Some, None}
 use Rattle.std.specs.shelf.Lists.{All}
-use Rattle.std.proofs.shelf.Lists.{append-assoc, length-append, length-map, length-replicate}
+use Rattle.std.proofs.shelf.Lists.{append-assoc, drop-more, length-append, length-map, length-replicate}
 use Rattle.std.proofs.shelf.Ways.{tells}
 use Rattle.wire.specs.Bytes.{zeros}
 use Rattle.wire.specs.Words.{le, word}
 use Rattle.wire.specs.Kind.{Meaning, Law, Points, stands}
 use Rattle.wire.specs.Pushed.{Pushed, Layout, Of, layout, pushed}
-use Rattle.wire.specs.Layouts.{row, all-stand, vector-padding, vector-bytes, vector-space, element}
+use Rattle.wire.specs.Layouts.{row, all-stand, vector-padding, vector-bytes, vector-space, string-bytes, string-space, element}
 use Rattle.wire.specs.ReadBack.{Fit, with-vector, ReadsBack}
 use Rattle.wire.proofs.LittleEndian.{length-le, word-back}
 
@@ -48,13 +48,37 @@ length-vector k xs used of =
     let r = length-row k xs (pad + used) of in
     simp (length-append, length-replicate) (omega arith)
 
+pub length-string : (text : List ℕ) (used : ℕ) → used + length (string-bytes text used) ≡ string-space used (length text)
+length-string text used = simp (length-append, length-replicate) (omega arith)
+
 module _ {V S : Type 0} (m : Meaning V S) (law : Law m) where
-  length-code : (xs : List V) (used : ℕ) → length (row (map (pushed m law) xs) used) ≡ length xs * m .size
+  pub length-code : (xs : List V) (used : ℕ) → length (row (map (pushed m law) xs) used) ≡ length xs * m .size
   length-code [] used = omega arith
   length-code (x ∷ xs) used =
       let h = length-code xs used in
       let l = law .long x (length (row (map (pushed m law) xs) used) + used) in
       simp (length-append, suc-mul) (omega arith)
+
+  -- one value more at the front of a row
+  module _ (xs : List V) (i j : ℕ) (x : V) (e : j ≡ i + 1) (h : i < length xs) (is : x ≡ getD xs i x) where
+    next : drop i xs ≡ x ∷ drop j xs
+    next = drop-more xs i x h ∙ ap (λ (y : V). y ∷ drop (i + 1) xs) (sym is) ∙ ap (λ (k : ℕ). x ∷ drop k xs) (sym e)
+
+    pub row-more : (used : ℕ) → row (map (pushed m law) (drop i xs)) used
+      ≡ m .bytes x (length (row (map (pushed m law) (drop j xs)) used) + used) ++ row (map (pushed m law) (drop j xs)) used
+    row-more used = ap (λ (l : List V). row (map (pushed m law) l) used) next
+
+    pub fit-more : T (m .fits x) → Fit m law (drop j xs) → Fit m law (drop i xs)
+    fit-more one rest = subst (Fit m law) (sym next) (one, rest)
+
+    pub stand-rest : (used : ℕ) → all-stand (map (pushed m law) (drop i xs)) used ≡ (stands (m .offset x) used && all-stand (map (pushed m law) (drop j xs)) used)
+    stand-rest used = ap (λ (l : List V). all-stand (map (pushed m law) l) used) next
+
+    pub room-more : length (drop j xs) * m .size + m .size ≤ length xs * m .size
+    room-more =
+      let few : suc (length (drop j xs)) ≤ length xs = omega (arith, length-drop j xs) in
+      let k = mul-le-mul-right (m .size) few in
+      omega (arith, suc-mul (length (drop j xs)) (m .size))
 
   reads-at : (xs : List V) (front used : List ℕ) (i : ℕ) (d : V) → Fit m law xs → all-stand (map (pushed m law) xs) (length used) ≡ true
     → length xs * m .size + length used < 2 ^ 31 → i < length xs

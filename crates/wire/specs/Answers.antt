@@ -1,10 +1,13 @@
 -- What a call that writes is told: the first of its tests that fails refuses it.
-use mathlib.Core.Bool.{Bool, cond}
+use mathlib.Core.Bool.{Bool, cond, not}
 use mathlib.Core.List.{List, [], _∷_}
-use Prim.Native.Nat.{ℕ, max}
+use Prim.Native.Nat.{ℕ}
 use lib.Dec.{ltb}
+use lib.ListN.{length}
 use Rattle.std.specs.declared.result.Result.{Result}
 use Rattle.std.specs.declared.result.Result.the-variants.{Ok, Err}
+use Rattle.wire.specs.Pushed.{Pushed, Layout}
+use Rattle.wire.specs.Layouts.{all-stand, vector-offset, string-space}
 use Rattle.wire.specs.declared.refusal.Refusal.{Refusal}
 use Rattle.wire.specs.declared.refusal.Refusal.the-variants.{Finished, NotFinished, Nested, NotOpen, Slot, Identifier, Offset, Text, TableTooLarge, MissingSlot, TooLong, Store, Full}
 
@@ -87,3 +90,15 @@ above n limit = record { fails = ltb limit n; why = Store tt; room = n }
 abbrev pub decided : {A : Type 0} → List Test → A → Result A Why
 decided [] x = Ok x
 decided (t ∷ ts) x = cond (t .fails) (Err (t .why)) (decided ts x)
+
+-- a call that takes space: the used space after it stays below 2 GiB, and the store can hold it
+abbrev pub space-tests : (n limit : ℕ) → List Test
+space-tests n limit = too-much n ∷ above n limit ∷ []
+
+-- a vector: each offset among its elements leads into the used space
+abbrev pub vector-tests : Layout → List Pushed → (used limit : ℕ) → List Test
+vector-tests k items used limit =
+    not (all-stand items used) because Offset ∷ space-tests (vector-offset k items used) limit
+
+abbrev pub string-tests : List ℕ → (used limit : ℕ) → List Test
+string-tests text used limit = space-tests (string-space used (length text)) limit

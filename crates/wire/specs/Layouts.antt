@@ -39,6 +39,10 @@ vector-bytes k items used =
 abbrev pub vector-space : (used n alignment : ℕ) → ℕ
 vector-space used n alignment = used + vector-padding used n alignment + n + 4
 
+-- the used space after a vector of the items: the vector's offset
+abbrev pub vector-offset : Layout → List Pushed → ℕ → ℕ
+vector-offset k items used = vector-space used (length items * k .size) (k .alignment)
+
 -- the zero bytes behind a string of n bytes and its terminator
 abbrev pub string-padding : (used n : ℕ) → ℕ
 string-padding used n = padding (used + n + 1) 4
