@@ -1,3 +1,4 @@
 // The structs of a font pack.
 pub mod anchor;
+pub mod examples;
 pub mod kern;

@@ -13,33 +13,18 @@ ghost use Rattle.wire.specs.Words.{le};
 
 pub type UOffsetT = u32;
 
-// An offset of a buffer in progress: where an object of `T` begins, counted from the end.
+// An offset: where an object of `T` begins, counted from the end of the buffer.
 #[derive_where(Clone, Copy)]
 pub struct WIPOffset<T>(UOffsetT, PhantomData<T>);
 
-// An offset of a buffer as a reader meets it: it leads forwards to an object of `T`.
-#[derive_where(Clone, Copy)]
-pub struct ForwardsUOffset<T>(UOffsetT, PhantomData<T>);
+// The same kind by the name under which it is read: it leads forwards to an object of `T`.
+pub type ForwardsUOffset<T> = WIPOffset<T>;
 
 impl<T> WIPOffset<T> {
     pub fn new(o: UOffsetT) -> WIPOffset<T>
         ensures { λ r. ⌜ r .0 ≡ o ⌝ }
     {
         WIPOffset(o, PhantomData)
-    }
-
-    pub fn value(self) -> UOffsetT
-        ensures { λ r. ⌜ r ≡ self .0 ⌝ }
-    {
-        self.0
-    }
-}
-
-impl<T> ForwardsUOffset<T> {
-    pub fn new(o: UOffsetT) -> ForwardsUOffset<T>
-        ensures { λ r. ⌜ r .0 ≡ o ⌝ }
-    {
-        ForwardsUOffset(o, PhantomData)
     }
 
     pub fn value(self) -> UOffsetT
@@ -90,11 +75,11 @@ pub impl<T> Kind for WIPOffset<T> as WIPOffsetKind {
     }
 
     fn offset(&self) -> Option<u32> {
-        Some(self.0)
+        Some(self.value())
     }
 
     fn push(&self, dst: &mut [u8], used: usize, from: usize) {
-        push_offset(self.0, dst, used, from);
+        push_offset(self.value(), dst, used, from);
     }
 
     fn follow(buf: &[u8], loc: usize) -> Option<usize> {
@@ -102,39 +87,6 @@ pub impl<T> Kind for WIPOffset<T> as WIPOffsetKind {
     }
 
     fn equals(&self, other: &WIPOffset<T>) -> bool {
-        self.0 == other.0
-    }
-}
-
-pub impl<T> Kind for ForwardsUOffset<T> as ForwardsUOffsetKind {
-    // the object's position
-    type Inner = usize;
-
-    ghost meaning = { forwards (λ o. o .0) };
-
-    ghost lawful = { forwards-law (λ o. o .0) };
-
-    fn size() -> usize {
-        4
-    }
-
-    fn alignment() -> usize {
-        4
-    }
-
-    fn offset(&self) -> Option<u32> {
-        Some(self.0)
-    }
-
-    fn push(&self, dst: &mut [u8], used: usize, from: usize) {
-        push_offset(self.0, dst, used, from);
-    }
-
-    fn follow(buf: &[u8], loc: usize) -> Option<usize> {
-        follow_offset(buf, loc)
-    }
-
-    fn equals(&self, other: &ForwardsUOffset<T>) -> bool {
-        self.0 == other.0
+        self.value() == other.value()
     }
 }

@@ -1,7 +1,7 @@
 -- What a call is told, by its tests.
 use mathlib.Core.Path.{_≡_, refl, sym, ap, _∙_}
 use mathlib.Core.Bool.{Bool, true, false, cond}
-use mathlib.Core.List.{List, _∷_}
+use mathlib.Core.List.{List, [], _∷_}
 use Prim.Native.Nat.{ℕ, _<_, _≤_}
 use native.Mathlib.Omega.{arith}
 use lib.Dec.{leb, ltb}
@@ -31,3 +31,12 @@ module _ {A : Type 0} (x : A) where
   pub told-done : (n limit : ℕ) → n ≤ 2147483647 → leb n limit ≡ true → decided (space-tests n limit) x ≡ Ok x
   told-done n limit low e =
       cond-false (ltb 2147483647 n) _ _ (ltb-no 2147483647 n low) ∙ cond-false (ltb limit n) _ _ (ltb-no limit n (leb-true n limit e))
+
+-- an accepted call answers what it is to answer
+pub decided-ok : {A : Type 0} (x y : A) (ts : List Test) → Ok y ≡ decided ts x → y ≡ x
+decided-ok x y [] e = cc
+decided-ok x y (t ∷ ts) e = by (t .fails) e (decided-ok x y ts)
+  where
+    by : (b : Bool) → Ok y ≡ cond b (Err (t .why)) (decided ts x) → (Ok y ≡ decided ts x → y ≡ x) → y ≡ x
+    by true e rest = let z : _≡_ {A = ℕ} 0 1 = cc in absurd (omega arith)
+    by false e rest = rest e

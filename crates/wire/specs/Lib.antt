@@ -9,3 +9,4 @@ pub mod Layouts
 pub mod ReadBack
 pub mod Answers
 pub mod Utf8
+pub mod Examples
