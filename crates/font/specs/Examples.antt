@@ -20,4 +20,4 @@ Structs-of-fonts =
     × (kern .bytes (record { left = 3; right = 5; value = negsuc 9 }) 0 ≡ 3 ∷ 0 ∷ 5 ∷ 0 ∷ 0xF6 ∷ 0xFF ∷ [])
     × (kern .reads (3 ∷ 0 ∷ 5 ∷ 0 ∷ 0xF6 ∷ []) 0 ≡ None)
     × (vector-bytes (layout kern kern-law) (map (pushed kern kern-law) two-kerns) 0
-      ≡ 2 ∷ 0 ∷ 0 ∷ 0 ∷ 3 ∷ 0 ∷ 5 ∷ 0 ∷ 0xF6 ∷ 0xFF ∷ 7 ∷ 0 ∷ 2 ∷ 0 ∷ 1 ∷ 0 ∷ [])
+    ≡ 2 ∷ 0 ∷ 0 ∷ 0 ∷ 3 ∷ 0 ∷ 5 ∷ 0 ∷ 0xF6 ∷ 0xFF ∷ 7 ∷ 0 ∷ 2 ∷ 0 ∷ 1 ∷ 0 ∷ [])

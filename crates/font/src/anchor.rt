@@ -3,9 +3,9 @@ ghost use lib.Dec.{T};
 ghost use mathlib.Core.Path.{_≡_};
 ghost use Rattle.font.specs.Laws.{anchor-law};
 ghost use Rattle.font.specs.Structs.{anchor};
+use kinds::Kind;
 use kinds::follow::contains;
 use kinds::push::copy_part;
-use kinds::Kind;
 
 #[derive(Clone, Copy, Debug, PartialEq, Eq)]
 pub struct Anchor {

@@ -11,8 +11,8 @@ ghost use Rattle.std.specs.declared.option.Option.the-variants.{None, Some};
 ghost use Rattle.fontpack.specs.Job.{at-offset, count as countOf, kern-of, string as stringOf, with-kerns, with-name};
 use font::kern::Kern;
 use font::kern::KernKind;
-use kinds::endian_scalar::U32Kind;
 use kinds::Kind;
+use kinds::endian_scalar::U32Kind;
 use space::Space;
 use store::allocator::Allocator;
 use vectors::string::create_byte_string;
@@ -29,7 +29,11 @@ pub struct Places {
 }
 
 // Writes a name and then kerns in front of it.
-pub fn write<S: Allocator>(space: &mut Space<S>, name: &[u8], kerns: &[Kern]) -> Result<Places, Refusal<S::Error>>
+pub fn write<S: Allocator>(
+    space: &mut Space<S>,
+    name: &[u8],
+    kerns: &[Kern],
+) -> Result<Places, Refusal<S::Error>>
     ensures used { λ r. ⌜ (isOk r ≡ true → taken (S·Allocator .list) (now (space .exit)) ≡ with-kerns (now (kerns .entry)) (with-name (now (name .entry)) (taken (S·Allocator .list) (now (space .entry))))) ⌝ }
     ensures places { λ r. ⌜ Cases r (λ p. (p .name ≡ length (with-name (now (name .entry)) (taken (S·Allocator .list) (now (space .entry))))) × (p .kerns ≡ length (taken (S·Allocator .list) (now (space .exit))))) (λ _. Unit {0}) ⌝ }
 {

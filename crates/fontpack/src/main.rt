@@ -22,8 +22,16 @@ fn run(rt: &LibcRuntime) -> Result<(), AnyError> {
     report_on(rt, "Doubling over 64 bytes", Doubling::new(&mut small))?;
     report_on(rt, "Still", Still::new())?;
     let mut wide = [0; 256];
-    report_on(rt, "Quota of 40 over Doubling over 256 bytes", Quota::new(Doubling::new(&mut wide), 40))?;
-    report_on(rt, "Quota of 20,000 over Still", Quota::new(Still::new(), 20000))
+    report_on(
+        rt,
+        "Quota of 40 over Doubling over 256 bytes",
+        Quota::new(Doubling::new(&mut wide), 40),
+    )?;
+    report_on(
+        rt,
+        "Quota of 20,000 over Still",
+        Quota::new(Still::new(), 20000),
+    )
 }
 
 fn main(rt: LibcRuntime) -> Result<(), AnyError> {

@@ -1,9 +1,9 @@
 // What took place, in words and bytes.
+use crate::job::Places;
 use crate::job::count_at;
 use crate::job::kern_at;
 use crate::job::string_at;
 use crate::job::write;
-use crate::job::Places;
 use font::kern::Kern;
 use font::kern::KernKind;
 use space::Space;

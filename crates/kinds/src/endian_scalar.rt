@@ -1,7 +1,7 @@
 // Numbers, in little-endian byte order.
+use crate::Kind;
 use crate::follow::contains;
 use crate::push::copy_part;
-use crate::Kind;
 use std::num::f32_from_bits_with_nan;
 use std::num::f32_to_bits_with_nan;
 use std::num::f64_from_bits_with_nan;
@@ -340,7 +340,12 @@ pub impl Kind for f32 as F32Kind {
         if !contains(buf, loc, 4) {
             return None;
         }
-        Some(f32_from_bits_with_nan(u32::from_le_bytes([buf[loc], buf[loc + 1], buf[loc + 2], buf[loc + 3]])))
+        Some(f32_from_bits_with_nan(u32::from_le_bytes([
+            buf[loc],
+            buf[loc + 1],
+            buf[loc + 2],
+            buf[loc + 3],
+        ])))
     }
 
     fn equals(&self, other: &f32) -> bool {

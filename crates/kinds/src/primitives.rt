@@ -1,7 +1,7 @@
 // Offsets.
+use crate::Kind;
 use crate::follow::contains;
 use crate::push::copy_part;
-use crate::Kind;
 use std::marker::PhantomData;
 ghost use Prim.Native.Nat.{_+_, _-_};
 ghost use lib.ListN.{drop};

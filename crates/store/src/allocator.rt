@@ -48,10 +48,3 @@ pub trait Contiguous: Allocator {
     fn as_slice(&self) -> &[u8]
         ensures { λ r. ⌜ now r ≡ Self·Allocator .list (now (self .entry)) ⌝ };
 }
-
-// Whether `count` bytes from `start` on lie inside `len` bytes.
-pub fn inside(start: usize, count: usize, len: usize) -> bool
-    ensures { λ r. ⌜ r ≡ leb (start + count) len ⌝ }
-{
-    start <= len && count <= len - start
-}

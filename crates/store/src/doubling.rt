@@ -11,7 +11,7 @@ ghost use Rattle.wire.proofs.Lists.{take-within};
 ghost use Rattle.store.specs.Growth.{Grown};
 use crate::allocator::Allocator;
 use crate::allocator::Contiguous;
-use crate::allocator::inside;
+use wire::range::inside;
 
 // The list is the first `len` bytes of the slice.
 #[derive(Drop)]

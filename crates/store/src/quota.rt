@@ -10,7 +10,7 @@ ghost use Rattle.store.specs.Growth.{Grown};
 ghost use Rattle.store.specs.Quotas.{saysReached, Below};
 use crate::allocator::Allocator;
 use crate::allocator::Contiguous;
-use crate::allocator::inside;
+use wire::range::inside;
 
 // The list is the last `quota` bytes of the store below, or all where there are fewer.
 #[derive(Drop)]

@@ -10,7 +10,7 @@ ghost use Rattle.wire.proofs.Lists.{array-within};
 ghost use Rattle.store.specs.Growth.{Grown};
 use crate::allocator::Allocator;
 use crate::allocator::Contiguous;
-use crate::allocator::inside;
+use wire::range::inside;
 
 const SIZE: usize = 16384;
 

@@ -64,24 +64,24 @@ module _ (k : Layout) (items : List Pushed) (used limit : ℕ) (stand : all-stan
 module _ {V R S E : Type 0} (m : Meaning V R) (law : Law m) (list : S → List ℕ) (limit : S → ℕ) (before after : Space S E) (items : List V) where
   -- the bytes that the code writes are the vector's
   pub vector-written : (pad : ℕ) (ok : Bool) → pad ≡ vector-padding (length (taken list before)) (length (map (pushed m law) items) * m .size) (m .alignment)
-    → Prepended list limit before after ok (le 4 (length items) ++ (row (map (pushed m law) items) (pad + length (taken list before)) ++ zeros pad))
-    → Prepended list limit before after ok (vector-bytes (layout m law) (map (pushed m law) items) (length (taken list before)))
+      → Prepended list limit before after ok (le 4 (length items) ++ (row (map (pushed m law) items) (pad + length (taken list before)) ++ zeros pad))
+      → Prepended list limit before after ok (vector-bytes (layout m law) (map (pushed m law) items) (length (taken list before)))
   vector-written pad ok is p =
       let code : List Pushed = map (pushed m law) items in
       let used : ℕ = length (taken list before) in
       let same : le 4 (length items) ++ (row code (pad + used) ++ zeros pad) ≡ vector-bytes (layout m law) code used =
-        ap (λ (n : ℕ). le 4 n ++ (row code (pad + used) ++ zeros pad)) (sym (length-map items (pushed m law)))
-        ∙ ap (λ (n : ℕ). le 4 (length code) ++ (row code (n + used) ++ zeros n)) is in
+      ap (λ (n : ℕ). le 4 n ++ (row code (pad + used) ++ zeros pad)) (sym (length-map items (pushed m law)))
+      ∙ ap (λ (n : ℕ). le 4 (length code) ++ (row code (n + used) ++ zeros n)) is in
       subst (λ (l : List ℕ). Prepended list limit before after ok l) same p
 
   -- the store held it just where its limit allows
   pub vector-allowed : (ok : Bool) → Prepended list limit before after ok (vector-bytes (layout m law) (map (pushed m law) items) (length (taken list before)))
-    → leb (vector-offset (layout m law) (map (pushed m law) items) (length (taken list before))) (limit (before .allocator)) ≡ ok
+      → leb (vector-offset (layout m law) (map (pushed m law) items) (length (taken list before))) (limit (before .allocator)) ≡ ok
   vector-allowed ok p =
       ap (λ (n : ℕ). leb n (limit (before .allocator))) (sym (length-vector (layout m law) (map (pushed m law) items) (length (taken list before)) (all-of m law items))) ∙ sym (p .answer)
 
   pub vector-used : Prepended list limit before after true (vector-bytes (layout m law) (map (pushed m law) items) (length (taken list before)))
-    → length (taken list after) ≡ vector-offset (layout m law) (map (pushed m law) items) (length (taken list before))
+      → length (taken list after) ≡ vector-offset (layout m law) (map (pushed m law) items) (length (taken list before))
   vector-used p =
       let used : ℕ = length (taken list before) in
       let bytes : List ℕ = vector-bytes (layout m law) (map (pushed m law) items) used in
@@ -91,18 +91,18 @@ module _ {V R S E : Type 0} (m : Meaning V R) (law : Law m) (list : S → List �
 -- the space after a string was written, or not
 module _ {S E : Type 0} (list : S → List ℕ) (limit : S → ℕ) (before after : Space S E) (text : List ℕ) where
   pub string-written : (pad : ℕ) (ok : Bool) → pad ≡ string-padding (length (taken list before)) (length text)
-    → Prepended list limit before after ok (le 4 (length text) ++ (text ++ (0 ∷ zeros pad)))
-    → Prepended list limit before after ok (string-bytes text (length (taken list before)))
+      → Prepended list limit before after ok (le 4 (length text) ++ (text ++ (0 ∷ zeros pad)))
+      → Prepended list limit before after ok (string-bytes text (length (taken list before)))
   string-written pad ok is p =
       subst (λ (n : ℕ). Prepended list limit before after ok (le 4 (length text) ++ (text ++ (0 ∷ zeros n)))) is p
 
   pub string-allowed : (ok : Bool) → Prepended list limit before after ok (string-bytes text (length (taken list before)))
-    → leb (string-space (length (taken list before)) (length text)) (limit (before .allocator)) ≡ ok
+      → leb (string-space (length (taken list before)) (length text)) (limit (before .allocator)) ≡ ok
   string-allowed ok p =
       ap (λ (n : ℕ). leb n (limit (before .allocator))) (sym (length-string text (length (taken list before)))) ∙ sym (p .answer)
 
   pub string-used : Prepended list limit before after true (string-bytes text (length (taken list before)))
-    → length (taken list after) ≡ string-space (length (taken list before)) (length text)
+      → length (taken list after) ≡ string-space (length (taken list before)) (length text)
   string-used p =
       let used : ℕ = length (taken list before) in
       ap length (p .used) ∙ length-append (string-bytes text used) (taken list before) ∙ add-comm (length (string-bytes text used)) used ∙ length-string text used

@@ -33,7 +33,11 @@ pub fn padding_of_string(used: usize, n: usize) -> Option<usize>
 }
 
 // Takes space for the count, the bytes, their zero byte and `pad` more, and writes them.
-fn prepend_string<S: Allocator>(space: &mut Space<S>, text: &[u8], pad: usize) -> Result<(), S::Error>
+fn prepend_string<S: Allocator>(
+    space: &mut Space<S>,
+    text: &[u8],
+    pad: usize,
+) -> Result<(), S::Error>
     requires { ⌜ length (taken (S·Allocator .list) (now space)) + pad + length (now text) + 5 ≤ 2147483647 ⌝ }
     ensures { λ r. ⌜ Prepended (S·Allocator .list) (S·Allocator .limit) (now (space .entry)) (now (space .exit)) (isOk r) (le 4 (length (now (text .entry))) ++ (now (text .entry) ++ (0 ∷ zeros pad))) ⌝ }
 {
@@ -45,7 +49,10 @@ fn prepend_string<S: Allocator>(space: &mut Space<S>, text: &[u8], pad: usize) -
 }
 
 // Writes bytes as a string, and answers the used space: the offset of its count.
-pub fn create_byte_string<S: Allocator>(space: &mut Space<S>, text: &[u8]) -> Result<u32, Refusal<S::Error>>
+pub fn create_byte_string<S: Allocator>(
+    space: &mut Space<S>,
+    text: &[u8],
+) -> Result<u32, Refusal<S::Error>>
     ensures answer { λ r. ⌜ told r ≡ decided (string-tests (now (text .entry)) (length (taken (S·Allocator .list) (now (space .entry)))) (S·Allocator .limit (now (space .entry) .allocator))) (string-space (length (taken (S·Allocator .list) (now (space .entry)))) (length (now (text .entry)))) ⌝ }
     ensures space { λ r. ⌜ Asked r (Prepended (S·Allocator .list) (S·Allocator .limit) (now (space .entry)) (now (space .exit)) (isOk r) (string-bytes (now (text .entry)) (length (taken (S·Allocator .list) (now (space .entry)))))) (now (space .exit) ≡ now (space .entry)) ⌝ }
 {

@@ -31,7 +31,13 @@ pub fn put_value<S: Allocator, T: Kind>(space: &mut Space<S>, x: &T) -> bool
 }
 
 // Puts `count` of the value's bytes, those from `from` on, in front of the used ones.
-fn put_part<S: Allocator, T: Kind>(space: &mut Space<S>, x: &T, used: usize, from: usize, count: usize) -> bool
+fn put_part<S: Allocator, T: Kind>(
+    space: &mut Space<S>,
+    x: &T,
+    used: usize,
+    from: usize,
+    count: usize,
+) -> bool
     requires short { ⌜ count ≤ 8 ⌝ }
     requires inside { ⌜ from + count ≤ T·Kind .meaning .size ⌝ }
     ensures placed { λ r. ⌜ Placed (S·Allocator .list) (S·Allocator .limit) (now (space .entry)) (now (space .exit)) r (take count (drop from (T·Kind .meaning .bytes (now (x .entry)) used))) ⌝ }

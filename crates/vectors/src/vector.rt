@@ -79,7 +79,11 @@ fn put_row<S: Allocator, T: Kind>(space: &mut Space<S>, items: &[T])
 }
 
 // Takes space for the count, the items and `pad` zero bytes behind them, and writes them.
-fn prepend_vector<S: Allocator, T: Kind>(space: &mut Space<S>, items: &[T], pad: usize) -> Result<(), S::Error>
+fn prepend_vector<S: Allocator, T: Kind>(
+    space: &mut Space<S>,
+    items: &[T],
+    pad: usize,
+) -> Result<(), S::Error>
     requires { ⌜ length (taken (S·Allocator .list) (now space)) + pad + length (now items) * T·Kind .meaning .size + 4 ≤ 2147483647 ⌝ }
     ensures space { λ r. ⌜ Prepended (S·Allocator .list) (S·Allocator .limit) (now (space .entry)) (now (space .exit)) (isOk r) (le 4 (length (now (items .entry))) ++ (row (map (pushed (T·Kind .meaning) (T·Kind .lawful)) (now (items .entry))) (pad + length (taken (S·Allocator .list) (now (space .entry)))) ++ zeros pad)) ⌝ }
     ensures fit { λ r. ⌜ (isOk r ≡ true → Fit (T·Kind .meaning) (T·Kind .lawful) (now (items .entry))) ⌝ }
@@ -93,7 +97,10 @@ fn prepend_vector<S: Allocator, T: Kind>(space: &mut Space<S>, items: &[T], pad:
 }
 
 // Writes the items as a vector, and answers the used space: the offset of its count.
-pub fn create_vector<S: Allocator, T: Kind>(space: &mut Space<S>, items: &[T]) -> Result<u32, Refusal<S::Error>>
+pub fn create_vector<S: Allocator, T: Kind>(
+    space: &mut Space<S>,
+    items: &[T],
+) -> Result<u32, Refusal<S::Error>>
     ensures answer { λ r. ⌜ told r ≡ decided (vector-tests (layout (T·Kind .meaning) (T·Kind .lawful)) (map (pushed (T·Kind .meaning) (T·Kind .lawful)) (now (items .entry))) (length (taken (S·Allocator .list) (now (space .entry)))) (S·Allocator .limit (now (space .entry) .allocator))) (vector-offset (layout (T·Kind .meaning) (T·Kind .lawful)) (map (pushed (T·Kind .meaning) (T·Kind .lawful)) (now (items .entry))) (length (taken (S·Allocator .list) (now (space .entry))))) ⌝ }
     ensures space { λ r. ⌜ Asked r (Prepended (S·Allocator .list) (S·Allocator .limit) (now (space .entry)) (now (space .exit)) (isOk r) (vector-bytes (layout (T·Kind .meaning) (T·Kind .lawful)) (map (pushed (T·Kind .meaning) (T·Kind .lawful)) (now (items .entry))) (length (taken (S·Allocator .list) (now (space .entry)))))) (now (space .exit) ≡ now (space .entry)) ⌝ }
     ensures fit { λ r. ⌜ (isOk r ≡ true → Fit (T·Kind .meaning) (T·Kind .lawful) (now (items .entry))) ⌝ }
@@ -136,7 +143,11 @@ pub fn reads_back<T: Kind>() -> bool
 }
 
 // Writes the items as a vector and reads one of them back from the store.
-pub fn create_and_get<S: Contiguous, T: Kind>(space: &mut Space<S>, items: &[T], i: usize) -> Result<Option<T::Inner>, Refusal<S::Error>>
+pub fn create_and_get<S: Contiguous, T: Kind>(
+    space: &mut Space<S>,
+    items: &[T],
+    i: usize,
+) -> Result<Option<T::Inner>, Refusal<S::Error>>
     ensures { λ r. ⌜ ((d : T) → isOk r ≡ true → i < length (now (items .entry)) → r ≡ Ok (Some (T·Kind .meaning .shown (getD (now (items .entry)) i d) (length (taken (S·Allocator .list) (now (space .exit))))))) ⌝ }
 {
     create_vector(space, items)?;

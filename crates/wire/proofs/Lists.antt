@@ -126,7 +126,7 @@ grown-below n xs ys h k grown =
     let cut = length (raised (length ys) xs) - n in
     let fits : cut ≤ length (zeros by) = simp (length-append, length-replicate) (omega arith) in
     let e : last n ys ≡ zeros (by - cut) ++ xs =
-      ap (last n) grown ∙ drop-append-le cut (zeros by) xs fits ∙ ap (λ (zs : List ℕ). zs ++ xs) (drop-replicate cut by 0) in
+    ap (last n) grown ∙ drop-append-le cut (zeros by) xs fits ∙ ap (λ (zs : List ℕ). zs ++ xs) (drop-replicate cut by 0) in
     raised-is (by - cut) xs (last n ys) e ∙ ap (raised (length (last n ys))) (sym (last-all n xs h))
 
 -- growth on growth
@@ -149,7 +149,7 @@ length-putMid xs start count ys e h = simp (length-append, length-take, length-d
 
 -- a write inside the last n bytes
 pub last-written : (n : ℕ) (xs : List ℕ) (start : ℕ) (ys : List ℕ) (from : ℕ) → from ≡ length xs - n + start → start + length ys ≤ length (last n xs)
-  → last n (written xs from ys) ≡ written (last n xs) start ys
+    → last n (written xs from ys) ≡ written (last n xs) start ys
 last-written n xs start ys from is k =
     let base = length xs - n in
     let tail = drop (from + length ys) xs in
@@ -164,13 +164,13 @@ last-written n xs start ys from is k =
 
 -- what a store below leaves of a write that fits
 pub last-put : (r : Bool) (n : ℕ) (xs after : List ℕ) (start : ℕ) (ys : List ℕ) (from : ℕ) → r ≡ true → after ≡ cond r (written xs from ys) xs
-  → from ≡ length xs - n + start → start + length ys ≤ length (last n xs) → last n after ≡ cond r (written (last n xs) start ys) (last n xs)
+    → from ≡ length xs - n + start → start + length ys ≤ length (last n xs) → last n after ≡ cond r (written (last n xs) start ys) (last n xs)
 last-put true n xs after start ys from t e is k = ap (last n) e ∙ last-written n xs start ys from is k
 last-put false n xs after start ys from t e is k = absurd (false≢true t)
 
 -- a write to an array of which the last n bytes are a store's list
 pub last-putMid : (n : ℕ) (xs : List ℕ) (start : ℕ) (ys : List ℕ) (from count : ℕ) (zs : List ℕ) → zs ≡ ys → count ≡ length ys
-  → from ≡ length xs - n + start → start + length ys ≤ length (last n xs) → last n (putMid from count xs zs) ≡ written (last n xs) start ys
+    → from ≡ length xs - n + start → start + length ys ≤ length (last n xs) → last n (putMid from count xs zs) ≡ written (last n xs) start ys
 last-putMid n xs start ys from count zs same long is k =
     ap (λ (us : List ℕ). last n (putMid from count xs us)) same
     ∙ ap (last n) (putMid-written xs from count ys long)
@@ -178,15 +178,15 @@ last-putMid n xs start ys from count zs same long is k =
 
 -- zero bytes written just before the last n bytes
 pub last-zeroed : (n m : ℕ) (xs : List ℕ) (from count j : ℕ) (zs : List ℕ) → zs ≡ zeros j → j ≡ count
-  → from + m ≡ length xs → count + n ≡ m → m ≤ length xs → last m (putMid from count xs zs) ≡ zeros count ++ last n xs
+    → from + m ≡ length xs → count + n ≡ m → m ≤ length xs → last m (putMid from count xs zs) ≡ zeros count ++ last n xs
 last-zeroed n m xs from count j zs same long e k h =
     let zeroed : zs ≡ zeros count = same ∙ ap zeros long in
     let size : length (take from xs) ≡ from = simp length-take (omega arith) in
     let tail : drop count (drop from xs) ≡ last n xs =
-      drop-drop count from xs ∙ (let far : from + count ≡ length xs - n = omega arith in ap (λ (i : ℕ). drop i xs) far) in
+    drop-drop count from xs ∙ (let far : from + count ≡ length xs - n = omega arith in ap (λ (i : ℕ). drop i xs) far) in
     let parts : putMid from count xs zs ≡ take from xs ++ (zeros count ++ last n xs) =
-      ap (λ (us : List ℕ). take from xs ++ (us ++ drop count (drop from xs))) zeroed
-      ∙ ap (λ (us : List ℕ). take from xs ++ (zeros count ++ us)) tail in
+    ap (λ (us : List ℕ). take from xs ++ (us ++ drop count (drop from xs))) zeroed
+    ∙ ap (λ (us : List ℕ). take from xs ++ (zeros count ++ us)) tail in
     ap (last m) parts
     ∙ last-at (take from xs) (zeros count ++ last n xs) m (simp (length-append, length-replicate, length-drop) (omega arith))
 
@@ -197,7 +197,7 @@ written-none xs start =
 
 -- one write right behind another
 pub written-written : (xs : List ℕ) (start : ℕ) (ys zs : List ℕ) (from : ℕ) → from ≡ start + length ys → start + length ys + length zs ≤ length xs
-  → written (written xs start ys) from zs ≡ written xs start (ys ++ zs)
+    → written (written xs start ys) from zs ≡ written xs start (ys ++ zs)
 written-written xs start ys zs from e h =
     let p = take start xs ++ ys in
     let q = drop (start + length ys) xs in
@@ -207,15 +207,15 @@ written-written xs start ys zs from e h =
     let far : from + length zs ≡ length p + length zs = omega arith in
     let near : start + length ys + length zs ≡ start + length (ys ++ zs) = simp length-append (omega arith) in
     let tail : drop (from + length zs) (p ++ q) ≡ drop (start + length (ys ++ zs)) xs =
-      ap (λ (k : ℕ). drop k (p ++ q)) far ∙ drop-append-add p q (length zs) ∙ drop-drop (length zs) (start + length ys) xs
-      ∙ ap (λ (k : ℕ). drop k xs) near in
+    ap (λ (k : ℕ). drop k (p ++ q)) far ∙ drop-append-add p q (length zs) ∙ drop-drop (length zs) (start + length ys) xs
+    ∙ ap (λ (k : ℕ). drop k xs) near in
     ap (λ (us : List ℕ). written us from zs) parts
     ∙ ap (λ (us : List ℕ). us ++ (zs ++ drop (from + length zs) (p ++ q))) head
     ∙ ap (λ (us : List ℕ). p ++ (zs ++ us)) tail
     ∙ simp append-assoc
 
 pub zeroed-more : (xs after : List ℕ) (start i : ℕ) → start + i < length xs → after ≡ written (written xs start (zeros i)) (start + i) (0 ∷ [])
-  → after ≡ written xs start (zeros (i + 1))
+    → after ≡ written xs start (zeros (i + 1))
 zeroed-more xs after start i h e =
     e ∙ written-written xs start (zeros i) (0 ∷ []) (start + i) (simp length-replicate (omega arith)) (simp length-replicate (omega arith))
     ∙ ap (written xs start) (replicate-more i 0)
@@ -237,17 +237,17 @@ last-prepended u start ys after bs e is =
     ∙ last-at (take start ys) (bs ++ last u ys) (u + length bs) (simp (length-append, length-drop) (omega arith))
 
 pub front-prepended : (u start : ℕ) (ys after bs old : List ℕ) → start + length bs + u ≡ length ys → after ≡ written ys start bs
-  → front u ys ≡ raised (length (front u ys)) old → front (u + length bs) after ≡ unspent (length (front (u + length bs) after)) (length bs) old
+    → front u ys ≡ raised (length (front u ys)) old → front (u + length bs) after ≡ unspent (length (front (u + length bs) after)) (length bs) old
 front-prepended u start ys after bs old e is grown =
     let cut : front (u + length bs) after ≡ take start ys =
-      ap (front (u + length bs)) (is ∙ split-written u start ys bs e)
-      ∙ front-at (take start ys) (bs ++ last u ys) (u + length bs) (simp (length-append, length-drop) (omega arith)) in
+    ap (front (u + length bs)) (is ∙ split-written u start ys bs e)
+    ∙ front-at (take start ys) (bs ++ last u ys) (u + length bs) (simp (length-append, length-drop) (omega arith)) in
     let size : length (front (u + length bs) after) ≡ start = ap length cut ∙ length-take start ys ∙ omega arith in
     let whole : length (front u ys) ≡ start + length bs = length-front u ys ∙ omega arith in
     let same : take start ys ≡ unspent start (length bs) old =
-      sym (take-take start (length ys - u) ys (omega arith))
-      ∙ ap (take start) grown
-      ∙ ap (λ (k : ℕ). take start (raised k old)) whole in
+    sym (take-take start (length ys - u) ys (omega arith))
+    ∙ ap (take start) grown
+    ∙ ap (λ (k : ℕ). take start (raised k old)) whole in
     cut ∙ same ∙ ap (λ (k : ℕ). unspent k (length bs) old) (sym size)
 
 -- growth alone
@@ -260,37 +260,39 @@ unspent-none xs old grown =
 module _ (n u count back : ℕ) (ys after : List ℕ) (start : ℕ) (eu : u ≡ length (last n ys)) (eb : back ≡ min count u) (es : start ≡ length ys - u) (is : after ≡ written ys start (zeros back)) where
   released : after ≡ (front n ys ++ zeros back) ++ drop count (last n ys)
   released =
-    let long = length-last n ys in
-    let at : start ≡ length ys - n = omega arith in
-    let tail : drop (start + length (zeros back)) ys ≡ drop count (last n ys) =
+      let long = length-last n ys in
+      let at : start ≡ length ys - n = omega arith in
+      let tail : drop (start + length (zeros back)) ys ≡ drop count (last n ys) =
       elim (cases-lt u count) as (λ _. drop (start + length (zeros back)) ys ≡ drop count (last n ys)) [
-        inl h ↦ drop-all _ ys (simp length-replicate (omega arith)) ∙ sym (drop-all count (last n ys) (omega arith))
+        | inl h ↦ drop-all _ ys (simp length-replicate (omega arith)) ∙ sym (drop-all count (last n ys) (omega arith))
         | inr h ↦ (
-          let same : start + length (zeros back) ≡ length ys - n + count = simp length-replicate (omega arith) in
-          ap (λ (k : ℕ). drop k ys) same ∙ sym (drop-drop count (length ys - n) ys)) ] in
-    is
-    ∙ ap (λ (k : ℕ). take k ys ++ (zeros back ++ drop (start + length (zeros back)) ys)) at
-    ∙ ap (λ (us : List ℕ). front n ys ++ (zeros back ++ us)) tail
-    ∙ sym (append-assoc (front n ys) (zeros back) (drop count (last n ys)))
+            let same : start + length (zeros back) ≡ length ys - n + count = simp length-replicate (omega arith) in
+            ap (λ (k : ℕ). drop k ys) same ∙ sym (drop-drop count (length ys - n) ys))
+      ] in
+      is
+      ∙ ap (λ (k : ℕ). take k ys ++ (zeros back ++ drop (start + length (zeros back)) ys)) at
+      ∙ ap (λ (us : List ℕ). front n ys ++ (zeros back ++ us)) tail
+      ∙ sym (append-assoc (front n ys) (zeros back) (drop count (last n ys)))
 
   pub last-released : last (u - back) after ≡ drop count (last n ys)
   last-released =
-    ap (last (u - back)) released ∙ last-at (front n ys ++ zeros back) (drop count (last n ys)) (u - back) (simp length-drop (omega (arith, length-last n ys)))
+      ap (last (u - back)) released ∙ last-at (front n ys ++ zeros back) (drop count (last n ys)) (u - back) (simp length-drop (omega (arith, length-last n ys)))
 
   pub front-released : front (u - back) after ≡ front n ys ++ zeros (min count (length (last n ys)))
   front-released =
-    let same : back ≡ min count (length (last n ys)) = omega arith in
-    ap (front (u - back)) released
-    ∙ front-at (front n ys ++ zeros back) (drop count (last n ys)) (u - back) (simp length-drop (omega (arith, length-last n ys)))
-    ∙ ap (λ (k : ℕ). front n ys ++ zeros k) same
+      let same : back ≡ min count (length (last n ys)) = omega arith in
+      ap (front (u - back)) released
+      ∙ front-at (front n ys ++ zeros back) (drop count (last n ys)) (u - back) (simp length-drop (omega (arith, length-last n ys)))
+      ∙ ap (λ (k : ℕ). front n ys ++ zeros k) same
 
 -- a store at the front of a slice
 
 pub take-short : (n u : ℕ) (xs : List ℕ) → u ≡ length (take n xs) → take u xs ≡ take n xs
 take-short n u xs e =
     elim (cases-lt n (length xs)) as (λ _. take u xs ≡ take n xs) [
-      inl h ↦ (let same : u ≡ n = omega (arith, length-take n xs) in ap (λ (k : ℕ). take k xs) same)
-      | inr h ↦ (let all : u ≡ length xs = omega (arith, length-take n xs) in take-all u xs (omega arith) ∙ sym (take-all n xs h)) ]
+      | inl h ↦ (let same : u ≡ n = omega (arith, length-take n xs) in ap (λ (k : ℕ). take k xs) same)
+      | inr h ↦ (let all : u ≡ length xs = omega (arith, length-take n xs) in take-all u xs (omega arith) ∙ sym (take-all n xs h))
+    ]
 
 pub nth-take : (n : ℕ) (xs : List ℕ) (i : ℕ) → i < length (take n xs) → nth (take n xs) i ≡ Some (getD xs i 0)
 nth-take n xs i l =
@@ -305,19 +307,20 @@ written-append xs ys start zs h =
 pub take-written : (n : ℕ) (xs : List ℕ) (start : ℕ) (ys : List ℕ) → start + length ys ≤ length (take n xs) → take n (written xs start ys) ≡ written (take n xs) start ys
 take-written n xs start ys h =
     elim (cases-lt n (length xs)) as (λ _. take n (written xs start ys) ≡ written (take n xs) start ys) [
-      inl l ↦ (
-        let long : length (take n xs) ≡ n = length-take n xs ∙ omega arith in
-        ap (λ (us : List ℕ). take n (written us start ys)) (sym (take-append-drop n xs))
-        ∙ ap (take n) (written-append (take n xs) (drop n xs) start ys h)
-        ∙ take-at (written (take n xs) start ys) (drop n xs) n (length-written (take n xs) start ys h ∙ long))
+      | inl l ↦ (
+          let long : length (take n xs) ≡ n = length-take n xs ∙ omega arith in
+          ap (λ (us : List ℕ). take n (written us start ys)) (sym (take-append-drop n xs))
+          ∙ ap (take n) (written-append (take n xs) (drop n xs) start ys h)
+          ∙ take-at (written (take n xs) start ys) (drop n xs) n (length-written (take n xs) start ys h ∙ long))
       | inr l ↦ (
-        let same = take-all n xs l in
-        let fits : start + length ys ≤ length xs = omega (arith, ap length same) in
-        take-all n (written xs start ys) (omega (arith, length-written xs start ys fits))
-        ∙ ap (λ (us : List ℕ). written us start ys) (sym same)) ]
+          let same = take-all n xs l in
+          let fits : start + length ys ≤ length xs = omega (arith, ap length same) in
+          take-all n (written xs start ys) (omega (arith, length-written xs start ys fits))
+          ∙ ap (λ (us : List ℕ). written us start ys) (sym same))
+    ]
 
 pub take-putMid : (n : ℕ) (xs : List ℕ) (start : ℕ) (ys : List ℕ) (from count : ℕ) (zs : List ℕ) → zs ≡ ys → count ≡ length ys → from ≡ start
-  → start + length ys ≤ length (take n xs) → take n (putMid from count xs zs) ≡ written (take n xs) start ys
+    → start + length ys ≤ length (take n xs) → take n (putMid from count xs zs) ≡ written (take n xs) start ys
 take-putMid n xs start ys from count zs same long is k =
     ap (λ (us : List ℕ). take n (putMid from count xs us)) same
     ∙ ap (take n) (putMid-written xs from count ys long)
@@ -326,13 +329,13 @@ take-putMid n xs start ys from count zs same long is k =
 
 -- the first `next` bytes turned round and their front zeroed, as the checker reads it
 pub moved-up : (len next : ℕ) (xs turned zs : List ℕ) (m a b j : ℕ) → len ≤ next → next ≤ length xs → a ≡ next → b ≡ next - len → m ≡ len
-  → turned ≡ drop m (take a xs) ++ take m (take a xs) → zs ≡ zeros j → j ≡ next - len
-  → zs ++ drop b (turned ++ drop a xs) ≡ (zeros (next - len) ++ take len xs) ++ drop next xs
+    → turned ≡ drop m (take a xs) ++ take m (take a xs) → zs ≡ zeros j → j ≡ next - len
+    → zs ++ drop b (turned ++ drop a xs) ≡ (zeros (next - len) ++ take len xs) ++ drop next xs
 moved-up len next xs turned zs m a b j h k ea eb em et ez ej =
     let part : turned ≡ drop len (take next xs) ++ take len xs =
-      et ∙ ap (λ (i : ℕ). drop i (take a xs) ++ take i (take a xs)) em
-      ∙ ap (λ (i : ℕ). drop len (take i xs) ++ take len (take i xs)) ea
-      ∙ ap (λ (us : List ℕ). drop len (take next xs) ++ us) (take-take len next xs h) in
+    et ∙ ap (λ (i : ℕ). drop i (take a xs) ++ take i (take a xs)) em
+    ∙ ap (λ (i : ℕ). drop len (take i xs) ++ take len (take i xs)) ea
+    ∙ ap (λ (us : List ℕ). drop len (take next xs) ++ us) (take-take len next xs h) in
     let size : length (drop len (take next xs)) ≡ b = simp (length-drop, length-take) (omega arith) in
     ap (λ (us : List ℕ). us ++ drop b (turned ++ drop a xs)) (ez ∙ ap zeros ej)
     ∙ ap (λ (us : List ℕ). zeros (next - len) ++ drop b (us ++ drop a xs)) part
@@ -343,14 +346,14 @@ moved-up len next xs turned zs m a b j h k ea eb em et ez ej =
 
 -- growth at the front of a slice
 pub take-moved : (n len next : ℕ) (xs after : List ℕ) → len ≡ length (take n xs) → len ≤ next → next ≤ length xs
-  → after ≡ (zeros (next - len) ++ take len xs) ++ drop next xs → take next after ≡ zeros (next - len) ++ take n xs
+    → after ≡ (zeros (next - len) ++ take len xs) ++ drop next xs → take next after ≡ zeros (next - len) ++ take n xs
 take-moved n len next xs after e h k moved =
     ap (take next) moved
     ∙ take-at (zeros (next - len) ++ take len xs) (drop next xs) next (simp (length-append, length-replicate, length-take) (omega (arith, length-take n xs)))
     ∙ ap (λ (us : List ℕ). zeros (next - len) ++ us) (take-short n len xs e)
 
 pub length-moved : (len next : ℕ) (xs after : List ℕ) → len ≤ next → next ≤ length xs
-  → after ≡ (zeros (next - len) ++ take len xs) ++ drop next xs → length after ≡ length xs
+    → after ≡ (zeros (next - len) ++ take len xs) ++ drop next xs → length after ≡ length xs
 length-moved len next xs after h k moved =
     ap length moved ∙ simp (length-append, length-replicate, length-take, length-drop) (omega arith)
 
@@ -382,21 +385,24 @@ front-front m n xs =
 
 -- a part copied over the beginning of a list, as the checker reads it
 pub filled-part : (xs ys new : List ℕ) (from start count many k : ℕ) → start ≡ min from (length ys) → count ≡ min (length ys - start) (length xs)
-  → new ≡ take many (drop start ys) → many ≡ count → k ≡ count → new ++ drop k xs ≡ filled xs (drop from ys)
+    → new ≡ take many (drop start ys) → many ≡ count → k ≡ count → new ++ drop k xs ≡ filled xs (drop from ys)
 filled-part xs ys new from start count many k es ec en em ek =
     let long : length (drop from ys) ≡ length ys - from = length-drop from ys in
     let same : drop start ys ≡ drop from ys =
-      elim (cases-lt from (length ys)) as (λ _. drop start ys ≡ drop from ys) [
-        inl h ↦ (let e : start ≡ from = omega arith in ap (λ (n : ℕ). drop n ys) e)
-        | inr h ↦ drop-all start ys (omega arith) ∙ sym (drop-all from ys h) ] in
+    elim (cases-lt from (length ys)) as (λ _. drop start ys ≡ drop from ys) [
+      | inl h ↦ (let e : start ≡ from = omega arith in ap (λ (n : ℕ). drop n ys) e)
+      | inr h ↦ drop-all start ys (omega arith) ∙ sym (drop-all from ys h)
+    ] in
     let head : take many (drop from ys) ≡ take (length xs) (drop from ys) =
-      elim (cases-lt (length ys - from) (length xs)) as (λ _. take many (drop from ys) ≡ take (length xs) (drop from ys)) [
-        inl h ↦ take-all many (drop from ys) (omega arith) ∙ sym (take-all (length xs) (drop from ys) (omega arith))
-        | inr h ↦ (let e : many ≡ length xs = omega arith in ap (λ (n : ℕ). take n (drop from ys)) e) ] in
+    elim (cases-lt (length ys - from) (length xs)) as (λ _. take many (drop from ys) ≡ take (length xs) (drop from ys)) [
+      | inl h ↦ take-all many (drop from ys) (omega arith) ∙ sym (take-all (length xs) (drop from ys) (omega arith))
+      | inr h ↦ (let e : many ≡ length xs = omega arith in ap (λ (n : ℕ). take n (drop from ys)) e)
+    ] in
     let tail : drop k xs ≡ drop (length (drop from ys)) xs =
-      elim (cases-lt (length ys - from) (length xs)) as (λ _. drop k xs ≡ drop (length (drop from ys)) xs) [
-        inl h ↦ (let e : k ≡ length (drop from ys) = omega arith in ap (λ (n : ℕ). drop n xs) e)
-        | inr h ↦ drop-all k xs (omega arith) ∙ sym (drop-all (length (drop from ys)) xs (omega arith)) ] in
+    elim (cases-lt (length ys - from) (length xs)) as (λ _. drop k xs ≡ drop (length (drop from ys)) xs) [
+      | inl h ↦ (let e : k ≡ length (drop from ys) = omega arith in ap (λ (n : ℕ). drop n xs) e)
+      | inr h ↦ drop-all k xs (omega arith) ∙ sym (drop-all (length (drop from ys)) xs (omega arith))
+    ] in
     ap (λ (us : List ℕ). us ++ drop k xs) (en ∙ ap (take many) same ∙ head) ∙ ap (λ (us : List ℕ). take (length xs) (drop from ys) ++ us) tail
 
 -- what stands before bytes that are written just before the last u

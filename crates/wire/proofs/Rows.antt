@@ -42,7 +42,7 @@ length-row k (x ∷ xs) used of =
     simp (length-append, suc-mul) (omega arith)
 
 pub length-vector : (k : Layout) (xs : List Pushed) (used : ℕ) → All (Of k) xs
-  → used + length (vector-bytes k xs used) ≡ vector-space used (length xs * k .size) (k .alignment)
+    → used + length (vector-bytes k xs used) ≡ vector-space used (length xs * k .size) (k .alignment)
 length-vector k xs used of =
     let pad = vector-padding used (length xs * k .size) (k .alignment) in
     let r = length-row k xs (pad + used) of in
@@ -65,7 +65,7 @@ module _ {V S : Type 0} (m : Meaning V S) (law : Law m) where
     next = drop-more xs i x h ∙ ap (λ (y : V). y ∷ drop (i + 1) xs) (sym is) ∙ ap (λ (k : ℕ). x ∷ drop k xs) (sym e)
 
     pub row-more : (used : ℕ) → row (map (pushed m law) (drop i xs)) used
-      ≡ m .bytes x (length (row (map (pushed m law) (drop j xs)) used) + used) ++ row (map (pushed m law) (drop j xs)) used
+        ≡ m .bytes x (length (row (map (pushed m law) (drop j xs)) used) + used) ++ row (map (pushed m law) (drop j xs)) used
     row-more used = ap (λ (l : List V). row (map (pushed m law) l) used) next
 
     pub fit-more : T (m .fits x) → Fit m law (drop j xs) → Fit m law (drop i xs)
@@ -76,13 +76,13 @@ module _ {V S : Type 0} (m : Meaning V S) (law : Law m) where
 
     pub room-more : length (drop j xs) * m .size + m .size ≤ length xs * m .size
     room-more =
-      let few : suc (length (drop j xs)) ≤ length xs = omega (arith, length-drop j xs) in
-      let k = mul-le-mul-right (m .size) few in
-      omega (arith, suc-mul (length (drop j xs)) (m .size))
+        let few : suc (length (drop j xs)) ≤ length xs = omega (arith, length-drop j xs) in
+        let k = mul-le-mul-right (m .size) few in
+        omega (arith, suc-mul (length (drop j xs)) (m .size))
 
   reads-at : (xs : List V) (front used : List ℕ) (i : ℕ) (d : V) → Fit m law xs → all-stand (map (pushed m law) xs) (length used) ≡ true
-    → length xs * m .size + length used < 2 ^ 31 → i < length xs
-    → m .reads (front ++ (row (map (pushed m law) xs) (length used) ++ used)) (length front + i * m .size)
+      → length xs * m .size + length used < 2 ^ 31 → i < length xs
+      → m .reads (front ++ (row (map (pushed m law) xs) (length used) ++ used)) (length front + i * m .size)
       ≡ Some (m .shown (getD xs i d) (length front + (length xs * m .size + length used)))
   reads-at [] front used i d fit stand low h = absurd (omega arith)
   reads-at (x ∷ xs) front used zero d fit stand low h =
@@ -129,24 +129,24 @@ module _ {V S : Type 0} (m : Meaning V S) (law : Law m) where
       let r : List ℕ = row items (pad + length used) in
       let b : List ℕ = with-vector m law xs front used in
       let first : b ≡ front ++ (head ++ (r ++ behind)) =
-        ap (λ (l : List ℕ). front ++ l) (append-assoc head (r ++ zeros pad) used ∙ ap (λ (l : List ℕ). head ++ l) (append-assoc r (zeros pad) used)) in
+      ap (λ (l : List ℕ). front ++ l) (append-assoc head (r ++ zeros pad) used ∙ ap (λ (l : List ℕ). head ++ l) (append-assoc r (zeros pad) used)) in
       let last : b ≡ (front ++ head) ++ (r ++ behind) = first ∙ sym (append-assoc front head (r ++ behind)) in
       let at : length (front ++ head) ≡ length front + 4 = length-append front head in
       let size = length-code xs (pad + length used) in
       let whole : length b ≡ length (front ++ head) + (length xs * m .size + length behind) =
-        ap length last ∙ length-append (front ++ head) (r ++ behind) ∙ (let e = length-append r behind in omega arith) in
+      ap length last ∙ length-append (front ++ head) (r ++ behind) ∙ (let e = length-append r behind in omega arith) in
       let counted : word 4 b (length front) ≡ length xs =
-        ap (λ (l : List ℕ). word 4 l (length front)) first ∙ word-back 4 (length items) front (r ++ behind) (fits-count xs (omega arith)) ∙ many in
+      ap (λ (l : List ℕ). word 4 l (length front)) first ∙ word-back 4 (length items) front (r ++ behind) (fits-count xs (omega arith)) ∙ many in
       let inside : (i : ℕ) (d : V) → i < length xs → element m b (length front + 4) (length xs) i ≡ Some (m .shown (getD xs i d) (length b)) =
-        λ i d h.
-          let below : ltb i (length xs) ≡ true = grind (arith, tells) in
-          let stood = stand-more items (length used) (length behind) stand (omega arith) in
-          let read = reads-at xs (front ++ head) behind i d fit stood (omega arith) h in
-          let place : m .reads b (length front + 4 + i * m .size) ≡ m .reads ((front ++ head) ++ (row items (length behind) ++ behind)) (length (front ++ head) + i * m .size) =
-            ap (λ (l : List ℕ). m .reads l (length front + 4 + i * m .size)) last
-            ∙ ap (λ (n : ℕ). m .reads ((front ++ head) ++ (row items n ++ behind)) (length front + 4 + i * m .size)) (sym long)
-            ∙ ap (λ (n : ℕ). m .reads ((front ++ head) ++ (row items (length behind) ++ behind)) (n + i * m .size)) (sym at) in
-          rw below (place ∙ read ∙ ap (λ (n : ℕ). Some (m .shown (getD xs i d) n)) (sym whole)) in
+      λ i d h.
+      let below : ltb i (length xs) ≡ true = grind (arith, tells) in
+      let stood = stand-more items (length used) (length behind) stand (omega arith) in
+      let read = reads-at xs (front ++ head) behind i d fit stood (omega arith) h in
+      let place : m .reads b (length front + 4 + i * m .size) ≡ m .reads ((front ++ head) ++ (row items (length behind) ++ behind)) (length (front ++ head) + i * m .size) =
+      ap (λ (l : List ℕ). m .reads l (length front + 4 + i * m .size)) last
+      ∙ ap (λ (n : ℕ). m .reads ((front ++ head) ++ (row items n ++ behind)) (length front + 4 + i * m .size)) (sym long)
+      ∙ ap (λ (n : ℕ). m .reads ((front ++ head) ++ (row items (length behind) ++ behind)) (n + i * m .size)) (sym at) in
+      rw below (place ∙ read ∙ ap (λ (n : ℕ). Some (m .shown (getD xs i d) n)) (sym whole)) in
       (counted, inside)
     where
       -- an element has at least one byte, so that the count fits four

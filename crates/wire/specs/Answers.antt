@@ -1,8 +1,8 @@
 -- What a call that writes is told: the first of its tests that fails refuses it.
-use mathlib.Core.Bool.{Bool, cond, not}
+use mathlib.Core.Bool.{Bool, true, false, cond, not}
 use mathlib.Core.List.{List, [], _∷_}
 use Prim.Native.Nat.{ℕ}
-use lib.Dec.{ltb}
+use lib.Dec.{leb, ltb}
 use lib.ListN.{length}
 use Rattle.std.specs.declared.result.Result.{Result}
 use Rattle.std.specs.declared.result.Result.the-variants.{Ok, Err}
@@ -50,41 +50,31 @@ abbrev pub told : {A E : Type 0} → Result A (Refusal E) → Result A Why
 told (Ok x) = Ok x
 told (Err e) = Err (erased e)
 
--- P where the store was asked for space, else Q
+-- P or Q, by a test
+abbrev pub Where : Bool → Type 0 → Type 0 → Type 0
+Where true P Q = P
+Where false P Q = Q
+
+-- P where the store was asked for space, else Q: 12 and 13 are told after it was
 abbrev pub Asked : {A E : Type 0} → Result A (Refusal E) → Type 0 → Type 0 → Type 0
 Asked (Ok x) P Q = P
-Asked (Err Finished) P Q = Q
-Asked (Err NotFinished) P Q = Q
-Asked (Err Nested) P Q = Q
-Asked (Err NotOpen) P Q = Q
-Asked (Err Slot) P Q = Q
-Asked (Err Identifier) P Q = Q
-Asked (Err Offset) P Q = Q
-Asked (Err Text) P Q = Q
-Asked (Err TableTooLarge) P Q = Q
-Asked (Err MissingSlot) P Q = Q
-Asked (Err TooLong) P Q = Q
-Asked (Err (Store e)) P Q = P
-Asked (Err Full) P Q = P
+Asked (Err e) P Q = Where (leb 12 (number e)) P Q
 
 pub record Test : Type 0 where
   pub fails : Bool
   pub why : Why
-  -- the space that the store has to have, 0 where the test is of something else
-  pub room : ℕ
 
 abbrev pub _because_ : Bool → Why → Test
-b because r = record { fails = b; why = r; room = 0 }
+b because r = record { fails = b; why = r }
 
 infixl 80 _because_
-
 -- the used space stays below 2 GiB
 abbrev pub too-much : ℕ → Test
 too-much n = ltb 2147483647 n because TooLong
 
 -- the store can hold it
 abbrev pub above : (n limit : ℕ) → Test
-above n limit = record { fails = ltb limit n; why = Store tt; room = n }
+above n limit = ltb limit n because Store tt
 
 -- the answer, unless a test fails
 abbrev pub decided : {A : Type 0} → List Test → A → Result A Why

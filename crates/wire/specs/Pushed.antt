@@ -41,17 +41,17 @@ module _ {V S : Type 0} (m : Meaning V S) (law : Law m) where
   -- a value of the kind as it is pushed
   abbrev pub pushed : V → Pushed
   pushed v =
-      record
-      { size = m .size
-      ; alignment = m .alignment
-      ; offset = m .offset v
-      ; bytes = m .bytes v
-      ; sized = law .sized
-      ; aligned = law .aligned
-      ; divides = law .divides
-      ; long = law .long v
-      ; octets = law .octets v
-      ; leads = law .leads v
+      record {
+        size = m .size;
+        alignment = m .alignment;
+        offset = m .offset v;
+        bytes = m .bytes v;
+        sized = law .sized;
+        aligned = law .aligned;
+        divides = law .divides;
+        long = law .long v;
+        octets = law .octets v;
+        leads = law .leads v;
       }
 
   -- values of the kind have its layout

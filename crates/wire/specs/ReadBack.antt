@@ -25,6 +25,6 @@ module _ {V S : Type 0} (m : Meaning V S) (law : Law m) where
   -- set in front of it since: its count, and each element as the kind shows it.
   abbrev pub ReadsBack : Type 0
   ReadsBack = (xs : List V) (front used : List ℕ) → Fit xs → all-stand (map (pushed m law) xs) (length used) ≡ true
-    → vector-space (length used) (length xs * m .size) (m .alignment) ≤ 2147483647
-    → (word 4 (with-vector xs front used) (length front) ≡ length xs)
-    × ((i : ℕ) (d : V) → i < length xs → element m (with-vector xs front used) (length front + 4) (length xs) i ≡ Some (m .shown (getD xs i d) (length (with-vector xs front used))))
+      → vector-space (length used) (length xs * m .size) (m .alignment) ≤ 2147483647
+      → (word 4 (with-vector xs front used) (length front) ≡ length xs)
+      × ((i : ℕ) (d : V) → i < length xs → element m (with-vector xs front used) (length front + 4) (length xs) i ≡ Some (m .shown (getD xs i d) (length (with-vector xs front used))))

@@ -22,7 +22,8 @@ returns g c =
     let kerns = c .in-Continue-kerns .ensures tt in
     record {
       used = λ _. kerns .space .used ∙ ap (with-kerns (c .args .kerns .now)) (name .space .used);
-      places =
-          ( decided-ok _ _ (string-tests (c .args .name .now) (length (taken list s)) (limit (s .allocator))) (name .answer) ∙ sym (string-used list limit s named (c .args .name .now) (name .space)) ∙ ap length (name .space .used)
-          , decided-ok _ _ (vector-tests (layout kern kern-law) (map (pushed kern kern-law) (c .args .kerns .now)) (length (taken list named)) (limit (named .allocator))) (kerns .answer) ∙ sym (vector-used kern kern-law list limit named kerned (c .args .kerns .now) (kerns .space)) );
+      places = (
+        decided-ok _ _ (string-tests (c .args .name .now) (length (taken list s)) (limit (s .allocator))) (name .answer) ∙ sym (string-used list limit s named (c .args .name .now) (name .space)) ∙ ap length (name .space .used),
+        decided-ok _ _ (vector-tests (layout kern kern-law) (map (pushed kern kern-law) (c .args .kerns .now)) (length (taken list named)) (limit (named .allocator))) (kerns .answer) ∙ sym (vector-used kern kern-law list limit named kerned (c .args .kerns .now) (kerns .space)),
+      );
     }

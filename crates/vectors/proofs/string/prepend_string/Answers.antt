@@ -35,7 +35,7 @@ returns g c =
     let z = length-replicate {A = ℕ} pad 0 in
     let end : zeros (pad + 1) ≡ 0 ∷ zeros pad = ap zeros (add-one pad) in
     let first = placed-done list limit mid padded (c .put-zeros .result) (0 ∷ zeros pad) (omega arith)
-      (subst (λ (l : List ℕ). Placed list limit mid padded (c .put-zeros .result) l) end (c .put-zeros .ensures)) in
+    (subst (λ (l : List ℕ). Placed list limit mid padded (c .put-zeros .result) l) end (c .put-zeros .ensures)) in
     let left = placed-rest list limit mid padded (0 ∷ zeros pad) first in
     let second = placed-done list limit padded texted (c .put-front .result) text (omega arith) (c .put-front .ensures) in
     let both = placed-placed list limit mid padded texted (0 ∷ zeros pad) text first second in
@@ -43,6 +43,6 @@ returns g c =
     let rest = placed-rest list limit mid texted (text ++ (0 ∷ zeros pad)) both in
     let word : c .to-le-bytes .result ≡ le 4 (length text) = c .to-le-bytes .ensures in
     let third = placed-done list limit texted (c .put-front-2 .last .self) (c .put-front-2 .result) (le 4 (length text)) (omega arith)
-      (subst (λ (l : List ℕ). Placed list limit texted (c .put-front-2 .last .self) (c .put-front-2 .result) l) word (c .put-front-2 .ensures)) in
+    (subst (λ (l : List ℕ). Placed list limit texted (c .put-front-2 .last .self) (c .put-front-2 .result) l) word (c .put-front-2 .ensures)) in
     prepended-of list limit s mid (c .put-front-2 .last .self) _ (le 4 (length text) ++ (text ++ (0 ∷ zeros pad))) spaced
     (placed-placed list limit mid texted (c .put-front-2 .last .self) (text ++ (0 ∷ zeros pad)) (le 4 (length text)) both third) (omega arith)

@@ -48,8 +48,7 @@ loop-left-again g c =
     let is = part-before bytes from count (c .loop-left .left) (omega arith) in
     let room : length (drop from bytes) ≤ length (rest list s) = simp length-drop (omega arith) in
     let old = laid-rest list limit s (c .loop-left .space) _ (inv .1) in
-    let fits : length part ≤ length (rest list (c .loop-left .space)) = omega (arith, length-drop from bytes, length-drop (c .loop-left .left) bytes, length-take count (drop from bytes)) in
-    (
+    let fits : length part ≤ length (rest list (c .loop-left .space)) = omega (arith, length-drop from bytes, length-drop (c .loop-left .left) bytes, length-take count (drop from bytes)) in (
       omega arith,
       laid-placed list limit s (c .loop-left .space) (c .put-part .last .space) (c .put-part .result) _ part _ is room (inv .1) placed,
       λ _. (placed-done list limit (c .loop-left .space) (c .put-part .last .space) (c .put-part .result) part fits placed .settled refl, c .put-part .ensures .fits),
@@ -64,8 +63,8 @@ returns g c =
     let zero : c .loop-left .left ≡ 0 = omega arith in
     let more = inv .2 (omega (arith, g .T·Kind .lawful .sized)) in
     let all : drop (c .loop-left .left) (m .bytes (c .args .x .now) (c .used-used .result)) ≡ m .bytes (c .args .x .now) (length (taken list s)) =
-      ap (λ (n : ℕ). drop n (m .bytes (c .args .x .now) (c .used-used .result))) zero
-      ∙ ap (m .bytes (c .args .x .now)) (c .used-used .ensures) in
+    ap (λ (n : ℕ). drop n (m .bytes (c .args .x .now) (c .used-used .result))) zero
+    ∙ ap (m .bytes (c .args .x .now)) (c .used-used .ensures) in
     let laid = subst (λ (l : List ℕ). Laid list (g .S·Allocator .limit) s (c .loop-left .space) l) all (inv .1) in
     record {
       placed = placed-laid list (g .S·Allocator .limit) s (c .loop-left .space) _ laid (more .0);

@@ -26,7 +26,7 @@ returns-in-None g c =
     let used = length (taken (g .S·Allocator .list) s) in
     let stand : all-stand code used ≡ true = ap (all-stand code) (sym (c .used-used .ensures)) ∙ sym (c .if-not-all-offsets-stand .ensures tt) in
     let space = same-space (c .used-used .result) used (length (c .args .items .now)) (length code) (c .size .result) (m .size) (c .alignment .result) (m .alignment)
-      (c .used-used .ensures) (sym (length-map (c .args .items .now) (pushed m law))) (c .size .ensures) (c .alignment .ensures) in
+    (c .used-used .ensures) (sym (length-map (c .args .items .now) (pushed m law))) (c .size .ensures) (c .alignment .ensures) in
     let long = too-long _ _ (c .in-None .ensures tt) in
     record {
       answer = sym (vector-long (layout m law) code used (g .S·Allocator .limit (s .allocator)) stand (ap (ltb 2147483647) (sym space) ∙ long));

@@ -24,7 +24,7 @@ returns-in-Break-make-space g c =
     let r = row (map (pushed m law) items) (c .args .pad + used) in
     let size = ap (λ (n : ℕ). length items * n) (c .size-size .ensures) in
     let long : length (r ++ zeros (c .args .pad)) ≡ length items * m .size + c .args .pad =
-      length-append r (zeros (c .args .pad)) ∙ (let a = length-code m law items (c .args .pad + used) in let z = length-replicate {A = ℕ} (c .args .pad) 0 in omega arith) in
+    length-append r (zeros (c .args .pad)) ∙ (let a = length-code m law items (c .args .pad + used) in let z = length-replicate {A = ℕ} (c .args .pad) 0 in omega arith) in
     let p = err-from-errBy (c .from-residual .result) (c .from-residual .ensures .1) in
     rw (p .1) record {
       space = prepended-refused (g .S·Allocator .list) (g .S·Allocator .limit) _ _ _ (le 4 (length items) ++ (r ++ zeros (c .args .pad))) (c .in-Break-make-space .ensures tt) (omega arith);
@@ -66,7 +66,7 @@ returns g c =
     let z = length-replicate {A = ℕ} pad 0 in
     let first = placed-done list limit mid padded (c .put-zeros .result) (zeros pad) (omega arith) (c .put-zeros .ensures) in
     let behind : length (taken list padded) ≡ pad + used =
-      ap length (first .used) ∙ length-append (zeros pad) (taken list mid) ∙ (let k = ap length (spaced .kept) in omega arith) in
+    ap length (first .used) ∙ length-append (zeros pad) (taken list mid) ∙ (let k = ap length (spaced .kept) in omega arith) in
     let r : List ℕ = row (map (pushed m law) items) (pad + used) in
     let second = subst (λ (n : ℕ). Placed list limit padded rowed true (row (map (pushed m law) items) n)) behind (c .put-row .ensures .placed) in
     let long : length r ≡ length items * m .size = length-code m law items (pad + used) in
@@ -75,7 +75,7 @@ returns g c =
     let left = placed-rest list limit mid rowed (r ++ zeros pad) both in
     let word : c .to-le-bytes .result ≡ le 4 (length items) = c .to-le-bytes .ensures in
     let third = placed-done list limit rowed (c .put-front .last .self) (c .put-front .result) (le 4 (length items)) (omega arith)
-      (subst (λ (l : List ℕ). Placed list limit rowed (c .put-front .last .self) (c .put-front .result) l) word (c .put-front .ensures)) in
+    (subst (λ (l : List ℕ). Placed list limit rowed (c .put-front .last .self) (c .put-front .result) l) word (c .put-front .ensures)) in
     record {
       space = prepended-of list limit s mid (c .put-front .last .self) _ (le 4 (length items) ++ (r ++ zeros pad)) spaced
           (placed-placed list limit mid rowed (c .put-front .last .self) (r ++ zeros pad) (le 4 (length items)) both third) (omega arith);

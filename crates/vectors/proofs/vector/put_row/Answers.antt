@@ -46,7 +46,7 @@ loop-i-again g c =
     let size = law .long x (length (taken list mid)) in
     let room = room-more m law items i j x (omega arith) (omega arith) (c .index-items-i .is) in
     let put = placed-done list limit mid (c .put-value .last .space) (c .put-value .result) _
-      (omega (arith, c .pre .room, placed-rest list limit s mid behind before, length-code m law (drop j items) used)) (c .put-value .ensures .placed) in
+    (omega (arith, c .pre .room, placed-rest list limit s mid behind before, length-code m law (drop j items) used)) (c .put-value .ensures .placed) in
     let done : c .put-value .result ≡ true = c .put-value .ensures .placed .answer ∙ sym (put .answer) in (
       subst (λ (l : List ℕ). Placed list limit s (c .put-value .last .space) true l) (ap (λ (l : List ℕ). l ++ behind) bytes ∙ sym more)
           (placed-placed list limit s mid (c .put-value .last .space) behind _ before put),
