@@ -222,6 +222,17 @@ module _ {S E : Type 0} (list : S → List ℕ) (limit : S → ℕ) where
     still = λ room. ap length (h .enough (omega (arith, parts-length list before)));
   }
 
+  -- the store took the bytes just where its limit allows the used space after them
+  pub prepended-allowed : (before after : Space S E) (ok : Bool) (bytes : List ℕ) (n : ℕ) → length (taken list before) + length bytes ≡ n
+      → Prepended list limit before after ok bytes → leb n (limit (before .allocator)) ≡ ok
+  prepended-allowed before after ok bytes n size p =
+      ap (λ (k : ℕ). leb k (limit (before .allocator))) (sym size) ∙ sym (p .answer)
+
+  pub prepended-used : (before after : Space S E) (bytes : List ℕ) (n : ℕ) → length (taken list before) + length bytes ≡ n
+      → Prepended list limit before after true bytes → length (taken list after) ≡ n
+  prepended-used before after bytes n size p =
+      ap length (p .used) ∙ length-append bytes (taken list before) ∙ omega arith
+
   -- zero bytes placed over the first `back` used ones, which are then used no more
   pub released : (before mid zeroed after : Space S E) (count back : ℕ) → back ≡ min count (length (taken list before)) → mid .allocator ≡ before .allocator
       → mid .used ≡ length (taken list before) - back → Placed list limit mid zeroed true (zeros back)

@@ -3,10 +3,9 @@ use mathlib.Core.Path.{_≡_, refl, sym, ap, subst, _∙_}
 use mathlib.Core.Bool.{Bool, true, false, cond, not}
 use mathlib.Core.List.{List, [], _∷_, _++_, map}
 use Prim.Native.Nat.{ℕ, _+_, _*_, _≤_}
-use native.Mathlib.Nat.{add-comm}
 use native.Mathlib.Omega.{arith}
 use lib.Dec.{leb, ltb}
-use lib.ListN.{length, length-append}
+use lib.ListN.{length}
 use Rattle.std.specs.declared.option.Option.{Option}
 use Rattle.std.specs.declared.option.Option.the-variants.{Some, None}
 use Rattle.std.specs.declared.result.Result.{Result}
@@ -23,7 +22,6 @@ use Rattle.wire.specs.Layouts.{all-stand, row, vector-bytes, vector-offset, vec
 use Rattle.wire.specs.Pushed.{Pushed, Layout, layout, pushed, all-of}
 use Rattle.wire.specs.Words.{le}
 use Rattle.wire.proofs.Decided.{decided-pass, told-long, told-store, told-done}
-use Rattle.wire.proofs.Rows.{length-vector, length-string}
 
 -- a padding that was found says that the space is not too long, and none that it is
 pub too-long : (n pad : ℕ) → None ≡ cond (ltb 2147483647 n) None (Some pad) → ltb 2147483647 n ≡ true
@@ -74,20 +72,6 @@ module _ {V R S E : Type 0} (m : Meaning V R) (law : Law m) (list : S → List �
       ∙ ap (λ (n : ℕ). le 4 (length code) ++ (row code (n + used) ++ zeros n)) is in
       subst (λ (l : List ℕ). Prepended list limit before after ok l) same p
 
-  -- the store held it just where its limit allows
-  pub vector-allowed : (ok : Bool) → Prepended list limit before after ok (vector-bytes (layout m law) (map (pushed m law) items) (length (taken list before)))
-      → leb (vector-offset (layout m law) (map (pushed m law) items) (length (taken list before))) (limit (before .allocator)) ≡ ok
-  vector-allowed ok p =
-      ap (λ (n : ℕ). leb n (limit (before .allocator))) (sym (length-vector (layout m law) (map (pushed m law) items) (length (taken list before)) (all-of m law items))) ∙ sym (p .answer)
-
-  pub vector-used : Prepended list limit before after true (vector-bytes (layout m law) (map (pushed m law) items) (length (taken list before)))
-      → length (taken list after) ≡ vector-offset (layout m law) (map (pushed m law) items) (length (taken list before))
-  vector-used p =
-      let used : ℕ = length (taken list before) in
-      let bytes : List ℕ = vector-bytes (layout m law) (map (pushed m law) items) used in
-      ap length (p .used) ∙ length-append bytes (taken list before) ∙ add-comm (length bytes) used
-      ∙ length-vector (layout m law) (map (pushed m law) items) used (all-of m law items)
-
 -- the space after a string was written, or not
 module _ {S E : Type 0} (list : S → List ℕ) (limit : S → ℕ) (before after : Space S E) (text : List ℕ) where
   pub string-written : (pad : ℕ) (ok : Bool) → pad ≡ string-padding (length (taken list before)) (length text)
@@ -95,17 +79,6 @@ module _ {S E : Type 0} (list : S → List ℕ) (limit : S → ℕ) (before afte
       → Prepended list limit before after ok (string-bytes text (length (taken list before)))
   string-written pad ok is p =
       subst (λ (n : ℕ). Prepended list limit before after ok (le 4 (length text) ++ (text ++ (0 ∷ zeros n)))) is p
-
-  pub string-allowed : (ok : Bool) → Prepended list limit before after ok (string-bytes text (length (taken list before)))
-      → leb (string-space (length (taken list before)) (length text)) (limit (before .allocator)) ≡ ok
-  string-allowed ok p =
-      ap (λ (n : ℕ). leb n (limit (before .allocator))) (sym (length-string text (length (taken list before)))) ∙ sym (p .answer)
-
-  pub string-used : Prepended list limit before after true (string-bytes text (length (taken list before)))
-      → length (taken list after) ≡ string-space (length (taken list before)) (length text)
-  string-used p =
-      let used : ℕ = length (taken list before) in
-      ap length (p .used) ∙ length-append (string-bytes text used) (taken list before) ∙ add-comm (length (string-bytes text used)) used ∙ length-string text used
 
 -- a vector that was written passed its tests
 pub vector-passed : (k : Layout) (items : List Pushed) (used limit n x : ℕ) → Ok n ≡ decided (vector-tests k items used limit) x → (all-stand items used ≡ true) × (vector-offset k items used ≤ 2147483647)

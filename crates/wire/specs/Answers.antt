@@ -6,8 +6,9 @@ use lib.Dec.{leb, ltb}
 use lib.ListN.{length}
 use Rattle.std.specs.declared.result.Result.{Result}
 use Rattle.std.specs.declared.result.Result.the-variants.{Ok, Err}
+use Rattle.wire.specs.Kind.{stands}
 use Rattle.wire.specs.Pushed.{Pushed, Layout}
-use Rattle.wire.specs.Layouts.{all-stand, vector-offset, string-space}
+use Rattle.wire.specs.Layouts.{all-stand, pushed-offset, vector-offset, string-space}
 use Rattle.wire.specs.declared.refusal.Refusal.{Refusal}
 use Rattle.wire.specs.declared.refusal.Refusal.the-variants.{Finished, NotFinished, Nested, NotOpen, Slot, Identifier, Offset, Text, TableTooLarge, MissingSlot, TooLong, Store, Full}
 
@@ -84,6 +85,10 @@ decided (t ∷ ts) x = cond (t .fails) (Err (t .why)) (decided ts x)
 -- a call that takes space: the used space after it stays below 2 GiB, and the store can hold it
 abbrev pub space-tests : (n limit : ℕ) → List Test
 space-tests n limit = too-much n ∷ above n limit ∷ []
+
+-- a value: the offset that it is, if any, leads into the used space
+abbrev pub push-tests : Pushed → (used limit : ℕ) → List Test
+push-tests x used limit = not (stands (x .offset) used) because Offset ∷ space-tests (pushed-offset x used) limit
 
 -- a vector: each offset among its elements leads into the used space
 abbrev pub vector-tests : Layout → List Pushed → (used limit : ℕ) → List Test

@@ -15,6 +15,17 @@ use Rattle.wire.specs.Pushed.{Pushed, Layout}
 abbrev pub padding : ℕ → ℕ → ℕ
 padding n a = (a - n % a) % a
 
+-- a value and the padding behind it that aligns it
+abbrev pub push-padding : Pushed → ℕ → ℕ
+push-padding x used = padding (used + x .size) (x .alignment)
+
+abbrev pub pushed-bytes : Pushed → ℕ → List ℕ
+pushed-bytes x used = x .bytes (push-padding x used + used) ++ zeros (push-padding x used)
+
+-- the used space after it: the value's offset
+abbrev pub pushed-offset : Pushed → ℕ → ℕ
+pushed-offset x used = used + push-padding x used + x .size
+
 -- values one behind the other in memory order; the last lies next to the used space
 abbrev pub row : List Pushed → ℕ → List ℕ
 row [] used = []

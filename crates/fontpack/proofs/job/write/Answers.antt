@@ -5,9 +5,10 @@ use Rattle.space.specs.Taken.{taken}
 use Rattle.font.specs.Laws.{kern-law}
 use Rattle.font.specs.Structs.{kern}
 use Rattle.wire.specs.Answers.{string-tests, vector-tests}
-use Rattle.wire.specs.Pushed.{layout, pushed}
+use Rattle.wire.specs.Pushed.{layout, pushed, all-of}
 use Rattle.wire.proofs.Decided.{decided-ok}
-use Rattle.vectors.proofs.Created.{string-used, vector-used}
+use Rattle.space.proofs.Spaces.{prepended-used}
+use Rattle.wire.proofs.Rows.{length-string, length-vector}
 use Rattle.fontpack.specs.Job.{with-kerns}
 use Rattle.fontpack.proofs.job.write.Needs as need
 
@@ -23,7 +24,7 @@ returns g c =
     record {
       used = λ _. kerns .space .used ∙ ap (with-kerns (c .args .kerns .now)) (name .space .used);
       places = (
-        decided-ok _ _ (string-tests (c .args .name .now) (length (taken list s)) (limit (s .allocator))) (name .answer) ∙ sym (string-used list limit s named (c .args .name .now) (name .space)) ∙ ap length (name .space .used),
-        decided-ok _ _ (vector-tests (layout kern kern-law) (map (pushed kern kern-law) (c .args .kerns .now)) (length (taken list named)) (limit (named .allocator))) (kerns .answer) ∙ sym (vector-used kern kern-law list limit named kerned (c .args .kerns .now) (kerns .space)),
+        decided-ok _ _ (string-tests (c .args .name .now) (length (taken list s)) (limit (s .allocator))) (name .answer) ∙ sym (prepended-used list limit s named _ _ (length-string (c .args .name .now) (length (taken list s))) (name .space)) ∙ ap length (name .space .used),
+        decided-ok _ _ (vector-tests (layout kern kern-law) (map (pushed kern kern-law) (c .args .kerns .now)) (length (taken list named)) (limit (named .allocator))) (kerns .answer) ∙ sym (prepended-used list limit named kerned _ _ (length-vector (layout kern kern-law) (map (pushed kern kern-law) (c .args .kerns .now)) (length (taken list named)) (all-of kern kern-law (c .args .kerns .now))) (kerns .space)),
       );
     }

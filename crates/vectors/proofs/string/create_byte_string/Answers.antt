@@ -8,8 +8,10 @@ use lib.ListN.{length}
 use Rattle.std.specs.declared.result.Result.the-variants.{Ok}
 use Rattle.space.specs.Taken.{taken}
 use Rattle.wire.specs.Layouts.{string-padding, string-space}
+use Rattle.space.proofs.Spaces.{prepended-allowed, prepended-used}
+use Rattle.wire.proofs.Rows.{length-string}
 use Rattle.wire.proofs.Decided.{told-long, told-store, told-done}
-use Rattle.vectors.proofs.Created.{too-long, found-padding, string-written, string-allowed, string-used}
+use Rattle.vectors.proofs.Created.{too-long, found-padding, string-written}
 use Rattle.vectors.proofs.string.create_byte_string.Needs as need
 
 pub returns-in-None : need.returns-in-None
@@ -40,7 +42,7 @@ cast-result g c =
     let pad = found .1 ∙ ap (λ (u : ℕ). string-padding u (length text)) (c .used-used .ensures) in
     let low : string-space used (length text) ≤ 2147483647 = omega (arith, found .0, ap (λ (u : ℕ). string-space u (length text)) (c .used-used .ensures)) in
     let done = string-written list limit s after text (c .in-Some .pad) true pad (c .in-Ok .ensures tt) in
-    omega (arith, low, string-used list limit s after text done, c .used .ensures)
+    omega (arith, low, prepended-used list limit s after _ _ (length-string text used) done, c .used .ensures)
 
 pub returns-in-Err : need.returns-in-Err
 returns-in-Err g c =
@@ -55,7 +57,7 @@ returns-in-Err g c =
     let low : string-space used (length text) ≤ 2147483647 = omega (arith, found .0, ap (λ (u : ℕ). string-space u (length text)) (c .used-used .ensures)) in
     let done = string-written list limit s after text (c .in-Some .pad) false pad (c .in-Err .ensures tt) in
     record {
-      answer = sym (told-store (string-space used (length text)) (string-space used (length text)) (limit (s .allocator)) low (string-allowed list limit s after text false done));
+      answer = sym (told-store (string-space used (length text)) (string-space used (length text)) (limit (s .allocator)) low (prepended-allowed list limit s after false _ _ (length-string text used) done));
       space = done;
     }
 
@@ -71,8 +73,8 @@ returns-in-Ok g c =
     let pad = found .1 ∙ ap (λ (u : ℕ). string-padding u (length text)) (c .used-used .ensures) in
     let low : string-space used (length text) ≤ 2147483647 = omega (arith, found .0, ap (λ (u : ℕ). string-space u (length text)) (c .used-used .ensures)) in
     let done = string-written list limit s after text (c .in-Some .pad) true pad (c .in-Ok .ensures tt) in
-    let offset : c .used .result ≡ string-space used (length text) = c .used .ensures ∙ string-used list limit s after text done in
+    let offset : c .used .result ≡ string-space used (length text) = c .used .ensures ∙ prepended-used list limit s after _ _ (length-string text used) done in
     record {
-      answer = ap Ok offset ∙ sym (told-done (string-space used (length text)) (string-space used (length text)) (limit (s .allocator)) low (string-allowed list limit s after text true done));
+      answer = ap Ok offset ∙ sym (told-done (string-space used (length text)) (string-space used (length text)) (limit (s .allocator)) low (prepended-allowed list limit s after true _ _ (length-string text used) done));
       space = done;
     }

@@ -13,8 +13,9 @@ use Rattle.wire.specs.Layouts.{all-stand, row, vector-bytes, vector-offset, vec
 use Rattle.wire.specs.Pushed.{Pushed, Layout, layout, pushed, all-of}
 use Rattle.wire.specs.Words.{le}
 use Rattle.wire.proofs.Rows.{length-vector}
+use Rattle.space.proofs.Spaces.{prepended-allowed, prepended-used}
 use Rattle.std.specs.declared.result.Result.the-variants.{Ok}
-use Rattle.vectors.proofs.Created.{too-long, found-padding, same-space, same-padding, vector-long, vector-store, vector-done, vector-written, vector-allowed, vector-used}
+use Rattle.vectors.proofs.Created.{too-long, found-padding, same-space, same-padding, vector-long, vector-store, vector-done, vector-written}
 use Rattle.vectors.proofs.vector.create_vector.Needs as need
 
 pub returns-in-None : need.returns-in-None
@@ -57,7 +58,7 @@ cast-result g c =
     let space = same-space (c .used-used .result) used (length items) (length code) (c .size .result) (m .size) (c .alignment .result) (m .alignment) (c .used-used .ensures) count (c .size .ensures) (c .alignment .ensures) in
     let low : vector-offset (layout m law) code used ≤ 2147483647 = omega (arith, found .0, space) in
     let done = vector-written m law list limit s after items (c .in-Some .pad) true pad (c .in-Ok .ensures tt .space) in
-    omega (arith, low, vector-used m law list limit s after items done, c .used .ensures)
+    omega (arith, low, prepended-used list limit s after _ _ (length-vector (layout m law) code used (all-of m law items)) done, c .used .ensures)
 
 pub returns-in-Err : need.returns-in-Err
 returns-in-Err g c =
@@ -78,7 +79,7 @@ returns-in-Err g c =
     let stand : all-stand code used ≡ true = ap (all-stand code) (sym (c .used-used .ensures)) ∙ sym (c .if-not-all-offsets-stand .ensures tt) in
     let done = vector-written m law list limit s after items (c .in-Some .pad) false pad (c .in-Err .ensures tt .space) in
     record {
-      answer = sym (vector-store (layout m law) code used (limit (s .allocator)) stand low (vector-allowed m law list limit s after items false done));
+      answer = sym (vector-store (layout m law) code used (limit (s .allocator)) stand low (prepended-allowed list limit s after false _ _ (length-vector (layout m law) code used (all-of m law items)) done));
       space = done;
       fit = λ no. absurd (false≢true no);
     }
@@ -101,9 +102,9 @@ returns-in-Ok g c =
     let low : vector-offset (layout m law) code used ≤ 2147483647 = omega (arith, found .0, space) in
     let stand : all-stand code used ≡ true = ap (all-stand code) (sym (c .used-used .ensures)) ∙ sym (c .if-not-all-offsets-stand .ensures tt) in
     let done = vector-written m law list limit s after items (c .in-Some .pad) true pad (c .in-Ok .ensures tt .space) in
-    let offset : c .used .result ≡ vector-offset (layout m law) code used = c .used .ensures ∙ vector-used m law list limit s after items done in
+    let offset : c .used .result ≡ vector-offset (layout m law) code used = c .used .ensures ∙ prepended-used list limit s after _ _ (length-vector (layout m law) code used (all-of m law items)) done in
     record {
-      answer = ap Ok offset ∙ sym (vector-done (layout m law) code used (limit (s .allocator)) stand low (vector-allowed m law list limit s after items true done));
+      answer = ap Ok offset ∙ sym (vector-done (layout m law) code used (limit (s .allocator)) stand low (prepended-allowed list limit s after true _ _ (length-vector (layout m law) code used (all-of m law items)) done));
       space = done;
       fit = c .in-Ok .ensures tt .fit;
     }

@@ -1,0 +1,5 @@
+pub mod State
+pub mod Calls
+pub mod Tables
+pub mod Finish
+pub mod Steps

@@ -1,0 +1,350 @@
+-- One call: what it refuses, replies and leaves. A refused call leaves everything as it was.
+use mathlib.Core.Bool.{Bool, true, false, cond, not, _&&_, _||_}
+use mathlib.Core.List.{List, [], _∷_, _++_}
+use Prim.Native.Nat.{ℕ, _+_, _-_, _*_, _%_, max}
+use lib.Dec.{eqb, leb, ltb}
+use lib.ListN.{length, drop}
+use Rattle.std.specs.declared.option.Option.{Option}
+use Rattle.std.specs.declared.option.Option.the-variants.{Some, None}
+use Rattle.std.specs.declared.result.Result.{Result}
+use Rattle.std.specs.Options.{isSome}
+use Rattle.wire.specs.declared.refusal.Refusal.the-variants.{Finished, NotFinished, Nested, NotOpen, Slot, Identifier, Offset, Text, TableTooLarge, MissingSlot, Full}
+use Rattle.wire.specs.Answers.{Why, Test, _because_, too-much, above, decided, space-tests, push-tests, string-tests, vector-tests}
+use Rattle.wire.specs.Bytes.{last, zeros}
+use Rattle.wire.specs.Kind.{stands}
+use Rattle.wire.specs.Layouts.{pushed-bytes, pushed-offset, string-bytes, string-space, vector-bytes, vector-offset, vector-padding}
+use Rattle.wire.specs.Pushed.{Pushed, Layout}
+use Rattle.wire.specs.Utf8.{wellFormed}
+use Rattle.wire.specs.Words.{le, word}
+use Rattle.model.specs.declared.field_loc.FieldLoc.{FieldLoc}
+use Rattle.model.specs.Calls.{Call, push, push-slot, push-slot-always, start-table, end-table, start-vector, end-vector, create-vector, create-byte-string, create-string, create-shared-string, finish, required, reset, force-defaults, finished-data, Reply, done, at, these}
+use Rattle.model.specs.Finish.{finish-bytes, finish-space, identifier-stands}
+use Rattle.model.specs.State.{Nest, nothing, table, vector, State, fresh}
+use Rattle.model.specs.Tables.{equal-object, lookup, record-slot, slot-stands, table-bytes, table-offset, table-space, table-vtable, table-vtables}
+
+-- ---- what is open
+
+abbrev pub is-open : Nest → Bool
+is-open nothing = false
+is-open (table start ls) = true
+is-open (vector start size count) = true
+
+abbrev pub in-table : Nest → Bool
+in-table nothing = false
+in-table (table start ls) = true
+in-table (vector start size count) = false
+
+abbrev pub records : Nest → List FieldLoc
+records nothing = []
+records (table start ls) = ls
+records (vector start size count) = []
+
+-- an end that agrees with its start
+abbrev pub ends-table : (start : ℕ) → Nest → Bool
+ends-table o nothing = false
+ends-table o (table start ls) = eqb o start
+ends-table o (vector start size count) = false
+
+abbrev pub ends-vector : (count used : ℕ) → Nest → Bool
+ends-vector n used nothing = false
+ends-vector n used (table start ls) = false
+ends-vector n used (vector start size count) = eqb n count && eqb used (start + count * size)
+
+-- ---- the tests of each call, in their order
+
+-- a 257th entry
+abbrev pub no-room : ℕ → Bool
+no-room n = leb 256 n
+
+-- a table is open and the slot is one of its own
+abbrev pub slot-tests : (slot : ℕ) → Pushed → State → List Test
+slot-tests n x s =
+    s .finished because Finished
+    ∷ (not (in-table (s .nest)) because NotOpen)
+    ∷ (not (slot-stands n) because Slot)
+    ∷ (not (stands (x .offset) (length (s .used))) because Offset)
+    ∷ []
+
+-- and it is recorded
+abbrev pub record-tests : (slot : ℕ) → Pushed → State → List Test
+record-tests n x s =
+    space-tests (pushed-offset x (length (s .used))) (s .limit)
+    ++ ((not (isSome (lookup n (records (s .nest)))) && no-room (length (records (s .nest)))) because Full) ∷ []
+
+-- a table with these records ends
+abbrev pub table-tests : (start : ℕ) → List FieldLoc → State → List Test
+table-tests start ls s =
+    let used = length (s .used) in
+    let vt = table-vtable used start ls in
+    let found = equal-object (s .used) vt (s .vtables) in
+    ltb 65535 (table-offset used - start) because TableTooLarge
+    ∷ too-much (table-space used vt found)
+    ∷ above (table-offset used + length vt) (s .limit)
+    ∷ ((not (isSome found) && no-room (length (s .vtables))) because Full)
+    ∷ []
+
+abbrev pub end-table-tests : Nest → State → List Test
+end-table-tests nothing s = []
+end-table-tests (table start ls) s = table-tests start ls s
+end-table-tests (vector start size count) s = []
+
+-- the padding before a vector's elements, and the used space after it
+abbrev pub start-space : Layout → (count used : ℕ) → ℕ
+start-space k count used = used + vector-padding used (count * k .size) (k .alignment)
+
+abbrev pub start-vector-tests : Layout → (count used limit : ℕ) → List Test
+start-vector-tests k count used limit =
+    too-much (start-space k count used + count * k .size + 4) ∷ above (start-space k count used) limit ∷ []
+
+-- the offset of a pooled string that holds these bytes
+abbrev pub pooled : List ℕ → State → Option ℕ
+pooled text s = equal-object (s .used) (le 4 (length text) ++ text) (s .strings)
+
+abbrev pub shared-tests : List ℕ → Option ℕ → State → List Test
+shared-tests text None s =
+    string-tests text (length (s .used)) (s .limit) ++ (no-room (length (s .strings)) because Full) ∷ []
+shared-tests text (Some o) s = []
+
+-- the offset of the vtable of the table at an offset, by its signed word
+abbrev pub vtable-offset : (tab : ℕ) → List ℕ → ℕ
+vtable-offset t us = (t + word 4 (last t us) 0) % 4294967296
+
+-- a table's word, and its vtable's length word and declared bytes, stand in the used bytes
+abbrev pub table-stands : (tab : ℕ) → List ℕ → Bool
+table-stands t us =
+    let v = vtable-offset t us in
+    stands (Some t) (length us) && (leb 4 t && (stands (Some v) (length us) && (leb 2 v && leb (word 2 (last v us) 0) v)))
+
+-- the word at a slot of a table's vtable, 0 beyond it
+abbrev pub slot-word : (tab slot : ℕ) → List ℕ → ℕ
+slot-word t n us =
+    let vt = last (vtable-offset t us) us in cond (ltb n (word 2 vt 0)) (word 2 vt n) 0
+
+abbrev pub tests : Call → State → List Test
+tests (push x) s = s .finished because Finished ∷ push-tests x (length (s .used)) (s .limit)
+tests (push-slot n x differs) s = slot-tests n x s ++ cond (differs || s .forced) (record-tests n x s) []
+tests (push-slot-always n x) s = slot-tests n x s ++ record-tests n x s
+tests start-table s = s .finished because Finished ∷ (is-open (s .nest) because Nested) ∷ []
+tests (end-table start) s =
+    s .finished because Finished ∷ (not (ends-table start (s .nest)) because NotOpen) ∷ end-table-tests (s .nest) s
+tests (start-vector k count) s =
+    s .finished because Finished ∷ (is-open (s .nest) because Nested) ∷ start-vector-tests k count (length (s .used)) (s .limit)
+tests (end-vector count) s =
+    s .finished because Finished
+    ∷ (not (ends-vector count (length (s .used)) (s .nest)) because NotOpen)
+    ∷ space-tests (length (s .used) + 4) (s .limit)
+tests (create-vector k items of) s = s .finished because Finished ∷ vector-tests k items (length (s .used)) (s .limit)
+tests (create-byte-string text) s =
+    s .finished because Finished ∷ (is-open (s .nest) because Nested) ∷ string-tests text (length (s .used)) (s .limit)
+tests (create-string text) s =
+    s .finished because Finished
+    ∷ (is-open (s .nest) because Nested)
+    ∷ (not (wellFormed text) because Text)
+    ∷ string-tests text (length (s .used)) (s .limit)
+tests (create-shared-string text) s =
+    s .finished because Finished
+    ∷ (is-open (s .nest) because Nested)
+    ∷ (not (wellFormed text) because Text)
+    ∷ shared-tests text (pooled text s) s
+tests (finish root id prefixed) s =
+    s .finished because Finished
+    ∷ (is-open (s .nest) because Nested)
+    ∷ (not (identifier-stands id) because Identifier)
+    ∷ (not (stands (Some root) (length (s .used))) because Offset)
+    ∷ space-tests (finish-space id prefixed (length (s .used)) (s .met)) (s .limit)
+tests (required t n) s =
+    not (slot-stands n) because Slot
+    ∷ (not (table-stands t (s .used)) because Offset)
+    ∷ (eqb (slot-word t n (s .used)) 0 because MissingSlot)
+    ∷ []
+tests reset s = []
+tests (force-defaults b) s = []
+tests finished-data s = not (s .finished) because NotFinished ∷ []
+
+-- the space that a call asks of the store, where it asks
+abbrev pub table-needs : Nest → ℕ → ℕ
+table-needs nothing used = used
+table-needs (table start ls) used = table-offset used + length (table-vtable used start ls)
+table-needs (vector start size count) used = used
+
+abbrev pub needs : Call → State → ℕ
+needs (push x) s = pushed-offset x (length (s .used))
+needs (push-slot n x differs) s = pushed-offset x (length (s .used))
+needs (push-slot-always n x) s = pushed-offset x (length (s .used))
+needs start-table s = length (s .used)
+needs (end-table start) s = table-needs (s .nest) (length (s .used))
+needs (start-vector k count) s = start-space k count (length (s .used))
+needs (end-vector count) s = length (s .used) + 4
+needs (create-vector k items of) s = vector-offset k items (length (s .used))
+needs (create-byte-string text) s = string-space (length (s .used)) (length text)
+needs (create-string text) s = string-space (length (s .used)) (length text)
+needs (create-shared-string text) s = string-space (length (s .used)) (length text)
+needs (finish root id prefixed) s = finish-space id prefixed (length (s .used)) (s .met)
+needs (required t n) s = length (s .used)
+needs reset s = length (s .used)
+needs (force-defaults b) s = length (s .used)
+needs finished-data s = length (s .used)
+
+-- ---- what an accepted call leaves
+
+-- bytes are put in front of the used ones, with something of an alignment among them
+abbrev pub wrote : List ℕ → (alignment : ℕ) → State → State
+wrote bytes alignment s =
+    record
+    { limit = s .limit
+    ; used = bytes ++ s .used
+    ; nest = s .nest
+    ; finished = s .finished
+    ; met = max (s .met) alignment
+    ; forced = s .forced
+    ; vtables = s .vtables
+    ; strings = s .strings
+    }
+
+abbrev pub opened : Nest → State → State
+opened n s =
+    record
+    { limit = s .limit
+    ; used = s .used
+    ; nest = n
+    ; finished = s .finished
+    ; met = s .met
+    ; forced = s .forced
+    ; vtables = s .vtables
+    ; strings = s .strings
+    }
+
+abbrev pub with-vtables : List ℕ → State → State
+with-vtables vs s =
+    record
+    { limit = s .limit
+    ; used = s .used
+    ; nest = s .nest
+    ; finished = s .finished
+    ; met = s .met
+    ; forced = s .forced
+    ; vtables = vs
+    ; strings = s .strings
+    }
+
+abbrev pub with-string : ℕ → State → State
+with-string o s =
+    record
+    { limit = s .limit
+    ; used = s .used
+    ; nest = s .nest
+    ; finished = s .finished
+    ; met = s .met
+    ; forced = s .forced
+    ; vtables = s .vtables
+    ; strings = s .strings ++ o ∷ []
+    }
+
+-- a finished buffer takes no more, so its vtables are of no use
+abbrev pub closed : State → State
+closed s =
+    record
+    { limit = s .limit
+    ; used = s .used
+    ; nest = s .nest
+    ; finished = true
+    ; met = s .met
+    ; forced = s .forced
+    ; vtables = []
+    ; strings = s .strings
+    }
+
+abbrev pub with-forced : Bool → State → State
+with-forced b s =
+    record
+    { limit = s .limit
+    ; used = s .used
+    ; nest = s .nest
+    ; finished = s .finished
+    ; met = s .met
+    ; forced = b
+    ; vtables = s .vtables
+    ; strings = s .strings
+    }
+
+abbrev pub record-in : (slot off : ℕ) → Nest → Nest
+record-in n o nothing = nothing
+record-in n o (table start ls) = table start (record-slot n o ls)
+record-in n o (vector start size count) = vector start size count
+
+-- a value is pushed and recorded
+abbrev pub slotted : (slot : ℕ) → Pushed → State → State
+slotted n x s =
+    let used = length (s .used) in
+    opened (record-in n (pushed-offset x used) (s .nest)) (wrote (pushed-bytes x used) (x .alignment) s)
+
+abbrev pub ended : Nest → State → State
+ended nothing s = s
+ended (table start ls) s =
+    let used = length (s .used) in
+    let vt = table-vtable used start ls in
+    let found = equal-object (s .used) vt (s .vtables) in
+    with-vtables (table-vtables used vt (s .vtables) found) (opened nothing (wrote (table-bytes used vt found) 4 s))
+ended (vector start size count) s = s
+
+abbrev pub shared : List ℕ → Option ℕ → State → State
+shared text None s =
+    with-string (string-space (length (s .used)) (length text)) (wrote (string-bytes text (length (s .used))) 4 s)
+shared text (Some o) s = s
+
+abbrev pub effect : Call → State → State
+effect (push x) s = wrote (pushed-bytes x (length (s .used))) (x .alignment) s
+effect (push-slot n x differs) s = cond (differs || s .forced) (slotted n x s) s
+effect (push-slot-always n x) s = slotted n x s
+effect start-table s = opened (table (length (s .used)) []) s
+effect (end-table start) s = ended (s .nest) s
+effect (start-vector k count) s =
+    opened (vector (start-space k count (length (s .used))) (k .size) count)
+    (wrote (zeros (vector-padding (length (s .used)) (count * k .size) (k .alignment))) (max (k .alignment) 4) s)
+effect (end-vector count) s = opened nothing (wrote (le 4 count) 4 s)
+effect (create-vector k items of) s = wrote (vector-bytes k items (length (s .used))) (max (k .alignment) 4) s
+effect (create-byte-string text) s = wrote (string-bytes text (length (s .used))) 4 s
+effect (create-string text) s = wrote (string-bytes text (length (s .used))) 4 s
+effect (create-shared-string text) s = shared text (pooled text s) s
+effect (finish root id prefixed) s = closed (wrote (finish-bytes root id prefixed (length (s .used)) (s .met)) 4 s)
+effect (required t n) s = s
+effect reset s = with-forced (s .forced) (fresh (s .limit))
+effect (force-defaults b) s = with-forced b s
+effect finished-data s = s
+
+-- ---- what it replies
+
+abbrev pub shared-reply : Option ℕ → ℕ → Reply
+shared-reply None new = at new
+shared-reply (Some o) new = at o
+
+abbrev pub reply : Call → State → Reply
+reply (push x) s = at (pushed-offset x (length (s .used)))
+reply (push-slot n x differs) s = done
+reply (push-slot-always n x) s = done
+reply start-table s = at (length (s .used))
+reply (end-table start) s = at (table-offset (length (s .used)))
+reply (start-vector k count) s = done
+reply (end-vector count) s = at (length (s .used) + 4)
+reply (create-vector k items of) s = at (vector-offset k items (length (s .used)))
+reply (create-byte-string text) s = at (string-space (length (s .used)) (length text))
+reply (create-string text) s = at (string-space (length (s .used)) (length text))
+reply (create-shared-string text) s = shared-reply (pooled text s) (string-space (length (s .used)) (length text))
+reply (finish root id prefixed) s = done
+reply (required t n) s = done
+reply reset s = done
+reply (force-defaults b) s = done
+reply finished-data s = these (s .used)
+
+-- ---- one call
+
+abbrev pub answered : Call → State → Result Reply Why
+answered c s = decided (tests c s) (reply c s)
+
+-- what is left, unless a test fails
+abbrev pub kept : List Test → State → State → State
+kept [] next s = next
+kept (t ∷ ts) next s = cond (t .fails) s (kept ts next s)
+
+abbrev pub after : Call → State → State
+after c s = kept (tests c s) (effect c s) s
