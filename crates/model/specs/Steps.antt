@@ -8,7 +8,7 @@ use Rattle.std.specs.declared.option.Option.{Option}
 use Rattle.std.specs.declared.option.Option.the-variants.{Some, None}
 use Rattle.std.specs.declared.result.Result.{Result}
 use Rattle.std.specs.Options.{isSome}
-use Rattle.wire.specs.declared.refusal.Refusal.the-variants.{Finished, NotFinished, Nested, NotOpen, Slot, Identifier, Offset, Text, TableTooLarge, MissingSlot, Full}
+use Rattle.wire.specs.declared.refusal.Refusal.the-variants.{Finished, NotFinished, Nested, NotOpen, Slot, Identifier, Offset, Text, MissingSlot, Full}
 use Rattle.wire.specs.Answers.{Why, Test, _because_, too-much, above, decided, space-tests, push-tests, string-tests, vector-tests}
 use Rattle.wire.specs.Bytes.{last, zeros}
 use Rattle.wire.specs.Kind.{stands}
@@ -20,7 +20,7 @@ use Rattle.model.specs.declared.field_loc.FieldLoc.{FieldLoc}
 use Rattle.model.specs.Calls.{Call, push, push-slot, push-slot-always, start-table, end-table, start-vector, end-vector, create-vector, create-byte-string, create-string, create-shared-string, finish, required, reset, force-defaults, finished-data, Reply, done, at, these}
 use Rattle.model.specs.Finish.{finish-bytes, finish-space, identifier-stands}
 use Rattle.model.specs.State.{Nest, nothing, table, vector, State, fresh}
-use Rattle.model.specs.Tables.{equal-object, lookup, record-slot, slot-stands, table-bytes, table-offset, table-space, table-vtable, table-vtables}
+use Rattle.model.specs.Tables.{equal-object, lookup, no-room, record-slot, slot-stands, table-bytes, table-offset, table-tests, table-vtable, table-vtables}
 
 -- ---- what is open
 
@@ -52,10 +52,6 @@ ends-vector n used (vector start size count) = eqb n count && eqb used (start + 
 
 -- ---- the tests of each call, in their order
 
--- a 257th entry
-abbrev pub no-room : ℕ → Bool
-no-room n = leb 256 n
-
 -- a table is open and the slot is one of its own
 abbrev pub slot-tests : (slot : ℕ) → Pushed → State → List Test
 slot-tests n x s =
@@ -71,21 +67,9 @@ record-tests n x s =
     space-tests (pushed-offset x (length (s .used))) (s .limit)
     ++ ((not (isSome (lookup n (records (s .nest)))) && no-room (length (records (s .nest)))) because Full) ∷ []
 
--- a table with these records ends
-abbrev pub table-tests : (start : ℕ) → List FieldLoc → State → List Test
-table-tests start ls s =
-    let used = length (s .used) in
-    let vt = table-vtable used start ls in
-    let found = equal-object (s .used) vt (s .vtables) in
-    ltb 65535 (table-offset used - start) because TableTooLarge
-    ∷ too-much (table-space used vt found)
-    ∷ above (table-offset used + length vt) (s .limit)
-    ∷ ((not (isSome found) && no-room (length (s .vtables))) because Full)
-    ∷ []
-
 abbrev pub end-table-tests : Nest → State → List Test
 end-table-tests nothing s = []
-end-table-tests (table start ls) s = table-tests start ls s
+end-table-tests (table start ls) s = table-tests start ls (s .used) (s .vtables) (s .limit)
 end-table-tests (vector start size count) s = []
 
 -- the padding before a vector's elements, and the used space after it

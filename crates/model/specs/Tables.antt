@@ -1,12 +1,15 @@
 -- Tables: what is recorded at their slots, and the vtables that say where it lies.
-use mathlib.Core.Bool.{Bool, cond, _&&_}
+use mathlib.Core.Bool.{Bool, cond, not, _&&_}
 use mathlib.Core.List.{List, [], _∷_, _++_}
 use Prim.Native.Nat.{ℕ, zero, suc, _+_, _-_, _/_, _%_, max}
-use lib.Dec.{eqb, leb}
+use lib.Dec.{eqb, leb, ltb}
 use lib.ListN.{length, take}
 use Rattle.std.specs.declared.option.Option.{Option}
 use Rattle.std.specs.declared.option.Option.the-variants.{Some, None}
+use Rattle.std.specs.Options.{isSome}
 use Rattle.std.specs.shelf.Text.{sameBytes}
+use Rattle.wire.specs.declared.refusal.Refusal.the-variants.{TableTooLarge, Full}
+use Rattle.wire.specs.Answers.{Test, _because_, too-much, above}
 use Rattle.wire.specs.Bytes.{last, zeros}
 use Rattle.wire.specs.Layouts.{padding}
 use Rattle.wire.specs.Words.{le}
@@ -86,3 +89,19 @@ table-returns vt (Some v) = length vt
 abbrev pub table-vtables : (used : ℕ) (vt vtables : List ℕ) → Option ℕ → List ℕ
 table-vtables used vt vs None = vs ++ ((table-offset used + length vt) ∷ [])
 table-vtables used vt vs (Some v) = vs
+
+-- a 257th entry
+abbrev pub no-room : ℕ → Bool
+no-room n = leb 256 n
+
+-- what ending a table is refused by
+abbrev pub table-tests : (start : ℕ) → List FieldLoc → (us vtables : List ℕ) (limit : ℕ) → List Test
+table-tests start ls us vs limit =
+    let used = length us in
+    let vt = table-vtable used start ls in
+    let found = equal-object us vt vs in
+    ltb 65535 (table-offset used - start) because TableTooLarge
+    ∷ too-much (table-space used vt found)
+    ∷ above (table-offset used + length vt) limit
+    ∷ ((not (isSome found) && no-room (length vs)) because Full)
+    ∷ []

@@ -1,6 +1,6 @@
 -- Laws of a space: what room there is, and how bytes that are placed one after another add up.
-use mathlib.Core.Bool.{Bool, true, false, cond}
-use mathlib.Core.List.{List, [], _++_, append-assoc}
+use mathlib.Core.Bool.{Bool, true, false, cond, not}
+use mathlib.Core.List.{List, [], _++_, append-assoc, append-nil}
 use mathlib.Core.Path.{_≡_, refl, sym, ap, subst, _∙_}
 use Prim.Native.Nat.{ℕ, _+_, _-_, _<_, _≤_, min}
 use native.Mathlib.Omega.{arith}
@@ -8,8 +8,8 @@ use lib.Dec.{leb}
 use lib.ListN.{length, drop, length-append, length-drop, length-replicate, replicate-append-replicate}
 use Rattle.std.proofs.shelf.Lists.{take-all}
 use Rattle.std.proofs.shelf.Tests.{le-leb, lt-leb, leb-true, true≢false, false≢true}
-use Rattle.wire.specs.Bytes.{front, last, written, zeros}
-use Rattle.space.specs.Taken.{taken, rest, Spaced, Placed, Prepended, Released}
+use Rattle.wire.specs.Bytes.{front, last, unspent, written, zeros}
+use Rattle.space.specs.Taken.{taken, rest, Spaced, Placed, Prepended, Released, Fronted}
 use Rattle.space.specs.declared.Space.{Space}
 use Rattle.wire.proofs.Lists.{length-last, length-front, last-short, front-short, front-last, front-front, last-at, front-at, last-prepended, front-placed, front-unspent, unspent-none, drop-last}
 
@@ -232,6 +232,64 @@ module _ {S E : Type 0} (list : S → List ℕ) (limit : S → ℕ) where
       → Prepended list limit before after true bytes → length (taken list after) ≡ n
   prepended-used before after bytes n size p =
       ap length (p .used) ∙ length-append bytes (taken list before) ∙ omega arith
+
+  -- what only prepends gives nothing back
+  front-only : (before after : Space S E) (n : ℕ) → n ≡ length (taken list after) + 0 - length (taken list before) → rest list after ≡ unspent (length (rest list after)) n (rest list before)
+      → rest list after ≡ unspent (length (rest list after) - 0) (length (taken list after) + 0 - length (taken list before)) (rest list before) ++ zeros 0
+  front-only before after n is front =
+      let more = length (taken list after) + 0 - length (taken list before) in
+      let all : length (rest list after) ≡ length (rest list after) - 0 = omega arith in
+      front ∙ ap (λ (k : ℕ). unspent (length (rest list after)) k (rest list before)) is
+      ∙ ap (λ (k : ℕ). unspent k more (rest list before)) all
+      ∙ sym (append-nil (unspent (length (rest list after) - 0) more (rest list before)))
+
+  pub fronted-done : (before after : Space S E) (bytes : List ℕ) (n : ℕ) → length (taken list before) + length bytes ≡ n → Prepended list limit before after true bytes
+      → Fronted list limit before after n 0 false
+  fronted-done before after bytes n size p =
+      let long : length (taken list after) ≡ n = prepended-used before after bytes n size p in
+      let more : length bytes ≡ length (taken list after) + 0 - length (taken list before) = omega arith in
+      record {
+        settled = p .settled;
+        unused = front-only before after (length bytes) more (p .unused);
+        still = λ room. p .still (omega arith);
+        grown = λ _. omega (arith, parts-length list after);
+        full = λ no. absurd (false≢true no);
+        limited = p .limited;
+      }
+
+  pub fronted-refused : (before after : Space S E) (bytes : List ℕ) (n : ℕ) → length (taken list before) + length bytes ≡ n → Prepended list limit before after false bytes
+      → Fronted list limit before after n 0 true
+  fronted-refused before after bytes n size p =
+      let none : 0 ≡ length (taken list after) + 0 - length (taken list before) = omega (arith, ap length (p .used)) in
+      record {
+        settled = p .settled;
+        unused = front-only before after 0 none (p .unused);
+        still = λ room. p .still (omega arith);
+        grown = λ no. absurd (true≢false no);
+        full = λ _. p .full refl;
+        limited = p .limited;
+      }
+
+  -- room was made and nothing taken
+  pub fronted-spaced : (before after : Space S E) (ok : Bool) (want n : ℕ) → length (taken list before) + want ≡ n → Spaced list limit before after ok want
+      → Fronted list limit before after n 0 (not ok)
+  fronted-spaced before after ok want n size p =
+      let none : 0 ≡ length (taken list after) + 0 - length (taken list before) = omega (arith, ap length (p .kept)) in
+      record {
+        settled = spaced-settled before after ok want p;
+        unused = front-only before after 0 none (unspent-none (rest list after) (rest list before) (p .unused));
+        still = λ room. ap length (p .enough (omega (arith, parts-length list before)));
+        grown = λ yes. (let r = p .room (not-false ok yes) in omega (arith, parts-length list after, ap length (p .kept)));
+        full = λ no. p .full (not-true ok no);
+        limited = p .limited;
+      }
+    where
+      not-false : (b : Bool) → not b ≡ false → b ≡ true
+      not-false true e = refl
+      not-false false e = sym e
+      not-true : (b : Bool) → not b ≡ true → b ≡ false
+      not-true false e = refl
+      not-true true e = sym e
 
   -- zero bytes placed over the first `back` used ones, which are then used no more
   pub released : (before mid zeroed after : Space S E) (count back : ℕ) → back ≡ min count (length (taken list before)) → mid .allocator ≡ before .allocator

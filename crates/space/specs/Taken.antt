@@ -53,3 +53,14 @@ pub record Released {S E : Type 0} (list : S → List ℕ) (limit : S → ℕ) (
   pub used : taken list after ≡ left
   pub unused : rest list after ≡ rest list before ++ zeros back
   pub limited : limit (after .allocator) ≡ limit (before .allocator)
+
+-- What a call leaves of the store's list in front of the used bytes, and how long the list is then. The call asked for a used space of `need` bytes
+-- and gave back `back` of them, zeroed; refused says that the store refused.
+pub record Fronted {S E : Type 0} (list : S → List ℕ) (limit : S → ℕ) (before after : Space S E) (need back : ℕ) (refused : Bool) : Type 0 where
+  pub settled : after .used ≡ length (taken list after)
+  pub unused : rest list after ≡ unspent (length (rest list after) - back) (length (taken list after) + back - length (taken list before)) (rest list before) ++ zeros back
+  -- the list grows only where it is too short, and then far enough, or to the limit where the store refuses
+  pub still : need ≤ length (list (before .allocator)) → length (list (after .allocator)) ≡ length (list (before .allocator))
+  pub grown : refused ≡ false → need ≤ length (list (after .allocator))
+  pub full : refused ≡ true → length (list (after .allocator)) ≡ limit (before .allocator)
+  pub limited : limit (after .allocator) ≡ limit (before .allocator)

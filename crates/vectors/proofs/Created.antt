@@ -18,7 +18,7 @@ use Rattle.wire.specs.declared.refusal.Refusal.the-variants.{Offset, TooLong, S
 use Rattle.wire.specs.Answers.{Why, above, decided, space-tests, vector-tests, _because_}
 use Rattle.wire.specs.Bytes.{zeros}
 use Rattle.wire.specs.Kind.{Meaning, Law}
-use Rattle.wire.specs.Layouts.{all-stand, row, vector-bytes, vector-offset, vector-padding, vector-space, string-bytes, string-padding, string-space}
+use Rattle.wire.specs.Layouts.{all-stand, padding, row, vector-bytes, vector-offset, vector-padding, vector-space, string-bytes, string-padding, string-space}
 use Rattle.wire.specs.Pushed.{Pushed, Layout, layout, pushed, all-of}
 use Rattle.wire.specs.Words.{le}
 use Rattle.wire.proofs.Decided.{decided-pass, told-long, told-store, told-done}
@@ -44,6 +44,12 @@ same-space u u′ c c′ s s′ a a′ eu ec es ea = rw (eu, ec, es, ea)
 
 pub same-padding : (u u′ c c′ s s′ a a′ : ℕ) → u ≡ u′ → c ≡ c′ → s ≡ s′ → a ≡ a′ → vector-padding u (c * s) a ≡ vector-padding u′ (c′ * s′) a′
 same-padding u u′ c c′ s s′ a a′ eu ec es ea = rw (eu, ec, es, ea)
+
+pub same-value-space : (u u′ s s′ a a′ : ℕ) → u ≡ u′ → s ≡ s′ → a ≡ a′ → u + padding (u + s) a + s ≡ u′ + padding (u′ + s′) a′ + s′
+same-value-space u u′ s s′ a a′ eu es ea = rw (eu, es, ea)
+
+pub same-value-padding : (u u′ s s′ a a′ : ℕ) → u ≡ u′ → s ≡ s′ → a ≡ a′ → padding (u + s) a ≡ padding (u′ + s′) a′
+same-value-padding u u′ s s′ a a′ eu es ea = rw (eu, es, ea)
 
 module _ (k : Layout) (items : List Pushed) (used limit : ℕ) (stand : all-stand items used ≡ true) where
   passed : decided (vector-tests k items used limit) (vector-offset k items used) ≡ decided (space-tests (vector-offset k items used) limit) (vector-offset k items used)

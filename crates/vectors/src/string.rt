@@ -12,7 +12,7 @@ ghost use Rattle.wire.specs.Answers.{decided, string-tests, told, Asked};
 ghost use Rattle.wire.specs.Bytes.{zeros};
 ghost use Rattle.wire.specs.Layouts.{string-bytes, string-padding, string-space};
 ghost use Rattle.wire.specs.Words.{le};
-use crate::vector::MAX_SIZE;
+use crate::value::MAX_SIZE;
 use space::Space;
 use store::allocator::Allocator;
 use wire::padding::padding_bytes;

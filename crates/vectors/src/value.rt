@@ -1,13 +1,36 @@
 // One value in front of the used bytes.
-ghost use lib.Dec.{T as True};
 ghost use Prim.Native.Nat.{_+_, _≤_};
+ghost use lib.Dec.{ltb, T as True};
 ghost use lib.ListN.{drop, length, take};
-ghost use mathlib.Core.Bool.{true};
+ghost use mathlib.Core.Bool.{cond, true};
+ghost use mathlib.Core.List.{_++_};
 ghost use mathlib.Core.Path.{_≡_};
-ghost use Rattle.space.specs.Taken.{taken, Placed};
+ghost use Rattle.space.specs.Taken.{taken, Placed, Prepended};
+ghost use Rattle.std.specs.Results.{isOk};
+ghost use Rattle.std.specs.declared.option.Option.the-variants.{None, Some};
+ghost use Rattle.wire.specs.Answers.{decided, push-tests, told, Asked};
+ghost use Rattle.wire.specs.Bytes.{zeros};
+ghost use Rattle.wire.specs.Kind.{stands};
+ghost use Rattle.wire.specs.Layouts.{padding, pushed-bytes, pushed-offset};
+ghost use Rattle.wire.specs.Pushed.{pushed};
 use kinds::Kind;
 use space::Space;
 use store::allocator::Allocator;
+use wire::padding::padding_bytes;
+use wire::refusal::Refusal;
+
+// The used space never passes this.
+pub const MAX_SIZE: usize = 2147483647;
+
+// Whether an offset leads to an object in the used space; what is none does.
+pub fn offset_stands(offset: Option<u32>, used: usize) -> bool
+    ensures { λ r. ⌜ r ≡ stands offset used ⌝ }
+{
+    match offset {
+        None => true,
+        Some(o) => 0 < o && o as usize <= used,
+    }
+}
 
 // A value is written in parts of at most this many bytes.
 const PART: usize = 8;
@@ -46,4 +69,50 @@ fn put_part<S: Allocator, T: Kind>(
     let mut part = [0; PART];
     x.push(&mut part[0..count], used, from);
     space.put_front(&part[0..count])
+}
+
+// The zero bytes behind a value, or nothing where the used space would be too long.
+pub fn padding_of_value(used: usize, size: usize, alignment: usize) -> Option<usize>
+    ensures { λ r. ⌜ r ≡ cond (ltb 2147483647 (used + padding (used + size) alignment + size)) None (Some (padding (used + size) alignment)) ⌝ }
+{
+    if used > MAX_SIZE || size > MAX_SIZE - used {
+        return None;
+    }
+    let pad = padding_bytes(used + size, alignment);
+    if pad > MAX_SIZE || used + pad + size > MAX_SIZE {
+        return None;
+    }
+    Some(pad)
+}
+
+// Takes space for a value and `pad` zero bytes behind it, and writes them.
+fn prepend_value<S: Allocator, T: Kind>(space: &mut Space<S>, x: &T, pad: usize) -> Result<(), S::Error>
+    requires { ⌜ length (taken (S·Allocator .list) (now space)) + pad + T·Kind .meaning .size ≤ 2147483647 ⌝ }
+    ensures space { λ r. ⌜ Prepended (S·Allocator .list) (S·Allocator .limit) (now (space .entry)) (now (space .exit)) (isOk r) (T·Kind .meaning .bytes (now (x .entry)) (pad + length (taken (S·Allocator .list) (now (space .entry)))) ++ zeros pad) ⌝ }
+    ensures fits { λ r. ⌜ (isOk r ≡ true → True (T·Kind .meaning .fits (now (x .entry)))) ⌝ }
+{
+    space.make_space(pad + T::size())?;
+    let _ = space.put_zeros(pad);
+    let _ = put_value(space, x);
+    Ok(())
+}
+
+// Writes a value, aligned, and answers the used space: the value's offset.
+pub fn push_value<S: Allocator, T: Kind>(space: &mut Space<S>, x: &T) -> Result<u32, Refusal<S::Error>>
+    ensures answer { λ r. ⌜ told r ≡ decided (push-tests (pushed (T·Kind .meaning) (T·Kind .lawful) (now (x .entry))) (length (taken (S·Allocator .list) (now (space .entry)))) (S·Allocator .limit (now (space .entry) .allocator))) (pushed-offset (pushed (T·Kind .meaning) (T·Kind .lawful) (now (x .entry))) (length (taken (S·Allocator .list) (now (space .entry))))) ⌝ }
+    ensures space { λ r. ⌜ Asked r (Prepended (S·Allocator .list) (S·Allocator .limit) (now (space .entry)) (now (space .exit)) (isOk r) (pushed-bytes (pushed (T·Kind .meaning) (T·Kind .lawful) (now (x .entry))) (length (taken (S·Allocator .list) (now (space .entry)))))) (now (space .exit) ≡ now (space .entry)) ⌝ }
+    ensures fits { λ r. ⌜ (isOk r ≡ true → True (T·Kind .meaning .fits (now (x .entry)))) ⌝ }
+{
+    let used = space.used();
+    if !offset_stands(x.offset(), used) {
+        return Err(Refusal::Offset);
+    }
+    let pad = match padding_of_value(used, T::size(), T::alignment()) {
+        None => return Err(Refusal::TooLong),
+        Some(pad) => pad,
+    };
+    match prepend_value(space, x, pad) {
+        Err(e) => Err(Refusal::Store(e)),
+        Ok(()) => Ok(space.used() as u32),
+    }
 }

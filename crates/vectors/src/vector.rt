@@ -11,11 +11,12 @@ ghost use Rattle.std.specs.declared.option.Option.the-variants.{None, Some};
 ghost use Rattle.std.specs.declared.result.Result.the-variants.{Ok};
 ghost use Rattle.wire.specs.Answers.{decided, told, vector-tests, Asked};
 ghost use Rattle.wire.specs.Bytes.{zeros};
-ghost use Rattle.wire.specs.Kind.{stands};
 ghost use Rattle.wire.specs.Layouts.{all-stand, element, row, vector-bytes, vector-offset, vector-padding, vector-space};
 ghost use Rattle.wire.specs.Pushed.{layout, pushed};
 ghost use Rattle.wire.specs.ReadBack.{Fit, ReadsBack};
 ghost use Rattle.wire.specs.Words.{le};
+use crate::value::MAX_SIZE;
+use crate::value::offset_stands;
 use crate::value::put_value;
 use kinds::Kind;
 use space::Space;
@@ -23,19 +24,6 @@ use store::allocator::Allocator;
 use store::allocator::Contiguous;
 use wire::padding::padding_bytes;
 use wire::refusal::Refusal;
-
-// The used space never passes this.
-pub const MAX_SIZE: usize = 2147483647;
-
-// Whether an offset leads to an object in the used space; what is none does.
-pub fn offset_stands(offset: Option<u32>, used: usize) -> bool
-    ensures { λ r. ⌜ r ≡ stands offset used ⌝ }
-{
-    match offset {
-        None => true,
-        Some(o) => 0 < o && o as usize <= used,
-    }
-}
 
 // Whether each offset among the items leads to an object in the used space.
 pub fn all_offsets_stand<T: Kind>(items: &[T], used: usize) -> bool

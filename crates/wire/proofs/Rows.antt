@@ -16,7 +16,7 @@ use Rattle.wire.specs.Bytes.{zeros}
 use Rattle.wire.specs.Words.{le, word}
 use Rattle.wire.specs.Kind.{Meaning, Law, Points, stands}
 use Rattle.wire.specs.Pushed.{Pushed, Layout, Of, layout, pushed}
-use Rattle.wire.specs.Layouts.{row, all-stand, vector-padding, vector-bytes, vector-space, string-bytes, string-space, element}
+use Rattle.wire.specs.Layouts.{row, all-stand, vector-padding, vector-bytes, vector-space, string-bytes, string-space, push-padding, pushed-bytes, pushed-offset, element}
 use Rattle.wire.specs.ReadBack.{Fit, with-vector, ReadsBack}
 use Rattle.wire.proofs.LittleEndian.{length-le, word-back}
 
@@ -46,6 +46,11 @@ pub length-vector : (k : Layout) (xs : List Pushed) (used : ℕ) → All (Of k) 
 length-vector k xs used of =
     let pad = vector-padding used (length xs * k .size) (k .alignment) in
     let r = length-row k xs (pad + used) of in
+    simp (length-append, length-replicate) (omega arith)
+
+pub length-pushed : (x : Pushed) (used : ℕ) → used + length (pushed-bytes x used) ≡ pushed-offset x used
+length-pushed x used =
+    let l = x .long (push-padding x used + used) in
     simp (length-append, length-replicate) (omega arith)
 
 pub length-string : (text : List ℕ) (used : ℕ) → used + length (string-bytes text used) ≡ string-space used (length text)

@@ -2,7 +2,7 @@
 use mathlib.Core.Bool.{Bool, true, false, cond, not}
 use mathlib.Core.List.{List, [], _∷_}
 use Prim.Native.Nat.{ℕ}
-use lib.Dec.{leb, ltb}
+use lib.Dec.{eqb, leb, ltb}
 use lib.ListN.{length}
 use Rattle.std.specs.declared.result.Result.{Result}
 use Rattle.std.specs.declared.result.Result.the-variants.{Ok, Err}
@@ -60,6 +60,11 @@ Where false P Q = Q
 abbrev pub Asked : {A E : Type 0} → Result A (Refusal E) → Type 0 → Type 0 → Type 0
 Asked (Ok x) P Q = P
 Asked (Err e) P Q = Where (leb 12 (number e)) P Q
+
+-- the store refused
+abbrev pub by-store : {A E : Type 0} → Result A (Refusal E) → Bool
+by-store (Ok x) = false
+by-store (Err e) = eqb (number e) 12
 
 pub record Test : Type 0 where
   pub fails : Bool
