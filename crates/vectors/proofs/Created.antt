@@ -18,7 +18,7 @@ use Rattle.wire.specs.declared.refusal.Refusal.the-variants.{Offset, TooLong, S
 use Rattle.wire.specs.Answers.{Why, above, decided, space-tests, vector-tests, _because_}
 use Rattle.wire.specs.Bytes.{zeros}
 use Rattle.wire.specs.Kind.{Meaning, Law}
-use Rattle.wire.specs.Layouts.{all-stand, padding, row, vector-bytes, vector-offset, vector-padding, vector-space, string-bytes, string-padding, string-space}
+use Rattle.wire.specs.Layouts.{all-stand, padding, row, vector-bytes, vector-offset, vector-padding, vector-space}
 use Rattle.wire.specs.Pushed.{Pushed, Layout, layout, pushed, all-of}
 use Rattle.wire.specs.Words.{le}
 use Rattle.wire.proofs.Decided.{decided-pass, told-long, told-store, told-done}
@@ -77,14 +77,6 @@ module _ {V R S E : Type 0} (m : Meaning V R) (law : Law m) (list : S → List �
       ap (λ (n : ℕ). le 4 n ++ (row code (pad + used) ++ zeros pad)) (sym (length-map items (pushed m law)))
       ∙ ap (λ (n : ℕ). le 4 (length code) ++ (row code (n + used) ++ zeros n)) is in
       subst (λ (l : List ℕ). Prepended list limit before after ok l) same p
-
--- the space after a string was written, or not
-module _ {S E : Type 0} (list : S → List ℕ) (limit : S → ℕ) (before after : Space S E) (text : List ℕ) where
-  pub string-written : (pad : ℕ) (ok : Bool) → pad ≡ string-padding (length (taken list before)) (length text)
-      → Prepended list limit before after ok (le 4 (length text) ++ (text ++ (0 ∷ zeros pad)))
-      → Prepended list limit before after ok (string-bytes text (length (taken list before)))
-  string-written pad ok is p =
-      subst (λ (n : ℕ). Prepended list limit before after ok (le 4 (length text) ++ (text ++ (0 ∷ zeros n)))) is p
 
 -- a vector that was written passed its tests
 pub vector-passed : (k : Layout) (items : List Pushed) (used limit n x : ℕ) → Ok n ≡ decided (vector-tests k items used limit) x → (all-stand items used ≡ true) × (vector-offset k items used ≤ 2147483647)

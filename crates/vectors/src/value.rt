@@ -3,15 +3,13 @@ ghost use Prim.Native.Nat.{_+_, _≤_};
 ghost use lib.Dec.{ltb, T as True};
 ghost use lib.ListN.{drop, length, take};
 ghost use mathlib.Core.Bool.{cond, true};
-ghost use mathlib.Core.List.{_++_};
 ghost use mathlib.Core.Path.{_≡_};
-ghost use Rattle.space.specs.Taken.{taken, Placed, Prepended};
+ghost use Rattle.space.specs.Taken.{taken, Placed, Prepended, Spaced};
 ghost use Rattle.std.specs.Results.{isOk};
 ghost use Rattle.std.specs.declared.option.Option.the-variants.{None, Some};
 ghost use Rattle.wire.specs.Answers.{decided, push-tests, told, Asked};
-ghost use Rattle.wire.specs.Bytes.{zeros};
 ghost use Rattle.wire.specs.Kind.{stands};
-ghost use Rattle.wire.specs.Layouts.{padding, pushed-bytes, pushed-offset};
+ghost use Rattle.wire.specs.Layouts.{padding, push-padding, pushed-bytes, pushed-offset};
 ghost use Rattle.wire.specs.Pushed.{pushed};
 use kinds::Kind;
 use space::Space;
@@ -85,16 +83,24 @@ pub fn padding_of_value(used: usize, size: usize, alignment: usize) -> Option<us
     Some(pad)
 }
 
-// Takes space for a value and `pad` zero bytes behind it, and writes them.
-fn prepend_value<S: Allocator, T: Kind>(space: &mut Space<S>, x: &T, pad: usize) -> Result<(), S::Error>
-    requires { ⌜ length (taken (S·Allocator .list) (now space)) + pad + T·Kind .meaning .size ≤ 2147483647 ⌝ }
-    ensures space { λ r. ⌜ Prepended (S·Allocator .list) (S·Allocator .limit) (now (space .entry)) (now (space .exit)) (isOk r) (T·Kind .meaning .bytes (now (x .entry)) (pad + length (taken (S·Allocator .list) (now (space .entry)))) ++ zeros pad) ⌝ }
-    ensures fits { λ r. ⌜ (isOk r ≡ true → True (T·Kind .meaning .fits (now (x .entry)))) ⌝ }
+// Makes room for a value and the zero bytes behind it, and answers how many these are.
+pub fn room_for_value<S: Allocator, T: Kind>(space: &mut Space<S>, x: &T) -> Result<usize, Refusal<S::Error>>
+    ensures answer { λ r. ⌜ told r ≡ decided (push-tests (pushed (T·Kind .meaning) (T·Kind .lawful) (now (x .entry))) (length (taken (S·Allocator .list) (now (space .entry)))) (S·Allocator .limit (now (space .entry) .allocator))) (push-padding (pushed (T·Kind .meaning) (T·Kind .lawful) (now (x .entry))) (length (taken (S·Allocator .list) (now (space .entry))))) ⌝ }
+    ensures space { λ r. ⌜ Asked r (Spaced (S·Allocator .list) (S·Allocator .limit) (now (space .entry)) (now (space .exit)) (isOk r) (push-padding (pushed (T·Kind .meaning) (T·Kind .lawful) (now (x .entry))) (length (taken (S·Allocator .list) (now (space .entry)))) + T·Kind .meaning .size)) (now (space .exit) ≡ now (space .entry)) ⌝ }
 {
-    space.make_space(pad + T::size())?;
-    let _ = space.put_zeros(pad);
-    let _ = put_value(space, x);
-    Ok(())
+    let used = space.used();
+    if !offset_stands(x.offset(), used) {
+        return Err(Refusal::Offset);
+    }
+    let size = T::size();
+    let pad = match padding_of_value(used, size, T::alignment()) {
+        None => return Err(Refusal::TooLong),
+        Some(pad) => pad,
+    };
+    match space.make_space(pad + size) {
+        Err(e) => Err(Refusal::Store(e)),
+        Ok(()) => Ok(pad),
+    }
 }
 
 // Writes a value, aligned, and answers the used space: the value's offset.
@@ -103,16 +109,8 @@ pub fn push_value<S: Allocator, T: Kind>(space: &mut Space<S>, x: &T) -> Result<
     ensures space { λ r. ⌜ Asked r (Prepended (S·Allocator .list) (S·Allocator .limit) (now (space .entry)) (now (space .exit)) (isOk r) (pushed-bytes (pushed (T·Kind .meaning) (T·Kind .lawful) (now (x .entry))) (length (taken (S·Allocator .list) (now (space .entry)))))) (now (space .exit) ≡ now (space .entry)) ⌝ }
     ensures fits { λ r. ⌜ (isOk r ≡ true → True (T·Kind .meaning .fits (now (x .entry)))) ⌝ }
 {
-    let used = space.used();
-    if !offset_stands(x.offset(), used) {
-        return Err(Refusal::Offset);
-    }
-    let pad = match padding_of_value(used, T::size(), T::alignment()) {
-        None => return Err(Refusal::TooLong),
-        Some(pad) => pad,
-    };
-    match prepend_value(space, x, pad) {
-        Err(e) => Err(Refusal::Store(e)),
-        Ok(()) => Ok(space.used() as u32),
-    }
+    let pad = room_for_value(space, x)?;
+    let _ = space.put_zeros(pad);
+    let _ = put_value(space, x);
+    Ok(space.used() as u32)
 }

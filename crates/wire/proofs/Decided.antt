@@ -7,9 +7,10 @@ use native.Mathlib.Omega.{arith}
 use lib.Dec.{leb, ltb}
 use Rattle.std.specs.declared.result.Result.{Result}
 use Rattle.std.specs.declared.result.Result.the-variants.{Ok, Err}
-use Rattle.std.proofs.shelf.Tests.{cond-true, cond-false, leb-true, leb-false}
+use Rattle.std.proofs.shelf.Tests.{cond-true, cond-false, leb-true, leb-false, ltb-false}
+use Rattle.wire.specs.declared.refusal.Refusal.{Refusal}
 use Rattle.wire.specs.declared.refusal.Refusal.the-variants.{TooLong, Store}
-use Rattle.wire.specs.Answers.{Why, Test, decided, space-tests}
+use Rattle.wire.specs.Answers.{Why, Test, Where, decided, number, space-tests}
 use Rattle.wire.proofs.Conds.{ltb-yes, ltb-no}
 
 module _ {A : Type 0} (x : A) where
@@ -40,3 +41,45 @@ decided-ok x y (t ∷ ts) e = by (t .fails) e (decided-ok x y ts)
     by : (b : Bool) → Ok y ≡ cond b (Err (t .why)) (decided ts x) → (Ok y ≡ decided ts x → y ≡ x) → y ≡ x
     by true e rest = let z : _≡_ {A = ℕ} 0 1 = cc in absurd (omega arith)
     by false e rest = rest e
+
+-- a refusal does not depend on the answer
+pub decided-err : {A B : Type 0} (w : Why) (ts : List Test) (x : A) (y : B) → Err w ≡ decided ts x → Err w ≡ decided ts y
+decided-err w [] x y e = let z : _≡_ {A = ℕ} 0 1 = cc in absurd (omega arith)
+decided-err w (t ∷ ts) x y e = by (t .fails) e (decided-err w ts x y)
+  where
+    by : (b : Bool) → Err w ≡ cond b (Err (t .why)) (decided ts x) → (Err w ≡ decided ts x → Err w ≡ decided ts y) → Err w ≡ cond b (Err (t .why)) (decided ts y)
+    by true e rest = let same : w ≡ t .why = cc in ap Err same
+    by false e rest = rest e
+
+-- nor does acceptance
+pub decided-other : {A B : Type 0} (v : A) (ts : List Test) (x : A) (y : B) → Ok v ≡ decided ts x → Ok y ≡ decided ts y
+decided-other v [] x y e = refl
+decided-other v (t ∷ ts) x y e = by (t .fails) e (decided-other v ts x y)
+  where
+    by : (b : Bool) → Ok v ≡ cond b (Err (t .why)) (decided ts x) → (Ok v ≡ decided ts x → Ok y ≡ decided ts y) → Ok y ≡ cond b (Err (t .why)) (decided ts y)
+    by true e rest = let z : _≡_ {A = ℕ} 0 1 = cc in absurd (omega arith)
+    by false e rest = rest e
+
+-- an accepted call that takes space stays below 2 GiB
+pub space-low : {A : Type 0} (n limit : ℕ) (v x : A) → Ok v ≡ decided (space-tests n limit) x → n ≤ 2147483647
+space-low n limit v x e = ltb-false 2147483647 n (by (ltb 2147483647 n) (cond (ltb limit n) (Err (Store tt)) (Ok x)) e)
+  where
+    by : (b : Bool) (r : Result _ Why) → Ok v ≡ cond b (Err TooLong) r → b ≡ false
+    by false r e = refl
+    by true r e = let z : _≡_ {A = ℕ} 0 1 = cc in absurd (omega arith)
+
+-- an accepted call passed its first test
+pub passed-on : {A : Type 0} (t : Test) (ts : List Test) (v x : A) → Ok v ≡ decided (t ∷ ts) x → (t .fails ≡ false) × (Ok v ≡ decided ts x)
+passed-on t ts v x e = by (t .fails) e
+  where
+    by : (b : Bool) → Ok v ≡ cond b (Err (t .why)) (decided ts x) → (b ≡ false) × (Ok v ≡ decided ts x)
+    by false e = (refl, e)
+    by true e = let z : _≡_ {A = ℕ} 0 1 = cc in absurd (omega arith)
+
+-- what is known of a refusing store serves for another fact
+pub asked-refused : {E : Type 0} (e : Refusal E) (P P′ Q : Type 0) → (P → P′) → Where (leb 12 (number e)) P Q → Where (leb 12 (number e)) P′ Q
+asked-refused e P P′ Q f h = by (leb 12 (number e)) h
+  where
+    by : (b : Bool) → Where b P Q → Where b P′ Q
+    by true h = f h
+    by false h = h
