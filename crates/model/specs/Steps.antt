@@ -8,7 +8,7 @@ use Rattle.std.specs.declared.option.Option.{Option}
 use Rattle.std.specs.declared.option.Option.the-variants.{Some, None}
 use Rattle.std.specs.declared.result.Result.{Result}
 use Rattle.std.specs.Options.{isSome}
-use Rattle.wire.specs.declared.refusal.Refusal.the-variants.{Finished, NotFinished, Nested, NotOpen, Slot, Identifier, Offset, Text, MissingSlot, Full}
+use Rattle.wire.specs.declared.refusal.Refusal.the-variants.{Finished, NotFinished, Nested, NotOpen, Slot, Offset, Text, MissingSlot, Full}
 use Rattle.wire.specs.Answers.{Why, Test, _because_, too-much, above, decided, space-tests, push-tests, string-tests, vector-tests}
 use Rattle.wire.specs.Bytes.{last, zeros}
 use Rattle.wire.specs.Kind.{stands}
@@ -18,7 +18,7 @@ use Rattle.wire.specs.Utf8.{wellFormed}
 use Rattle.wire.specs.Words.{le, word}
 use Rattle.model.specs.declared.field_loc.FieldLoc.{FieldLoc}
 use Rattle.model.specs.Calls.{Call, push, push-slot, push-slot-always, start-table, end-table, start-vector, end-vector, create-vector, create-byte-string, create-string, create-shared-string, finish, required, reset, force-defaults, finished-data, Reply, done, at, these}
-use Rattle.model.specs.Finish.{finish-bytes, finish-space, identifier-stands}
+use Rattle.model.specs.Finish.{finish-bytes, finish-space, finish-tests}
 use Rattle.model.specs.State.{Nest, nothing, table, vector, State, fresh}
 use Rattle.model.specs.Tables.{equal-object, lookup, no-room, record-slot, slot-stands, table-bytes, table-offset, table-tests, table-vtable, table-vtables}
 
@@ -133,9 +133,7 @@ tests (create-shared-string text) s =
 tests (finish root id prefixed) s =
     s .finished because Finished
     ∷ (is-open (s .nest) because Nested)
-    ∷ (not (identifier-stands id) because Identifier)
-    ∷ (not (stands (Some root) (length (s .used))) because Offset)
-    ∷ space-tests (finish-space id prefixed (length (s .used)) (s .met)) (s .limit)
+    ∷ finish-tests root id prefixed (length (s .used)) (s .met) (s .limit)
 tests (required t n) s =
     not (slot-stands n) because Slot
     ∷ (not (table-stands t (s .used)) because Offset)
