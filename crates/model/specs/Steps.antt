@@ -9,10 +9,10 @@ use Rattle.std.specs.declared.option.Option.the-variants.{Some, None}
 use Rattle.std.specs.declared.result.Result.{Result}
 use Rattle.std.specs.Options.{isSome}
 use Rattle.wire.specs.declared.refusal.Refusal.the-variants.{Finished, NotFinished, Nested, NotOpen, Slot, Offset, Text, MissingSlot, Full}
-use Rattle.wire.specs.Answers.{Why, Test, _because_, too-much, above, decided, space-tests, push-tests, string-tests, vector-tests}
+use Rattle.wire.specs.Answers.{Why, Test, _because_, too-much, above, decided, space-tests, push-tests, start-vector-tests, string-tests, vector-tests}
 use Rattle.wire.specs.Bytes.{last, zeros}
 use Rattle.wire.specs.Kind.{stands}
-use Rattle.wire.specs.Layouts.{pushed-bytes, pushed-offset, string-bytes, string-space, vector-bytes, vector-offset, vector-padding}
+use Rattle.wire.specs.Layouts.{pushed-bytes, pushed-offset, start-space, string-bytes, string-space, vector-bytes, vector-offset, vector-padding}
 use Rattle.wire.specs.Pushed.{Pushed, Layout}
 use Rattle.wire.specs.Utf8.{wellFormed}
 use Rattle.wire.specs.Words.{le, word}
@@ -71,14 +71,6 @@ abbrev pub end-table-tests : Nest → State → List Test
 end-table-tests nothing s = []
 end-table-tests (table start ls) s = table-tests start ls (s .used) (s .vtables) (s .limit)
 end-table-tests (vector start size count) s = []
-
--- the padding before a vector's elements, and the used space after it
-abbrev pub start-space : Layout → (count used : ℕ) → ℕ
-start-space k count used = used + vector-padding used (count * k .size) (k .alignment)
-
-abbrev pub start-vector-tests : Layout → (count used limit : ℕ) → List Test
-start-vector-tests k count used limit =
-    too-much (start-space k count used + count * k .size + 4) ∷ above (start-space k count used) limit ∷ []
 
 -- the offset of a pooled string that holds these bytes
 abbrev pub pooled : List ℕ → State → Option ℕ

@@ -9,7 +9,7 @@ ghost use Rattle.space.specs.Taken.{rest, taken, Placed, Prepended};
 ghost use Rattle.std.specs.Results.{isOk};
 ghost use Rattle.std.specs.declared.option.Option.the-variants.{None, Some};
 ghost use Rattle.std.specs.declared.result.Result.the-variants.{Ok};
-ghost use Rattle.wire.specs.Answers.{decided, told, vector-tests, Asked};
+ghost use Rattle.wire.specs.Answers.{decided, space-tests, start-vector-tests, told, vector-tests, Asked};
 ghost use Rattle.wire.specs.Bytes.{zeros};
 ghost use Rattle.wire.specs.Layouts.{all-stand, element, row, vector-bytes, vector-offset, vector-padding, vector-space};
 ghost use Rattle.wire.specs.Pushed.{layout, pushed};
@@ -104,6 +104,38 @@ pub fn create_vector<S: Allocator, T: Kind>(
     match prepend_vector(space, items, pad) {
         Err(e) => Err(Refusal::Store(e)),
         Ok(()) => Ok(space.used() as u32),
+    }
+}
+
+// Puts the padding behind a vector of `count` elements, which are then pushed one by one, the last first.
+pub fn start_vector<S: Allocator, T: Kind>(space: &mut Space<S>, count: usize) -> Result<(), Refusal<S::Error>>
+    ensures answer { λ r. ⌜ told r ≡ decided (start-vector-tests (layout (T·Kind .meaning) (T·Kind .lawful)) count (length (taken (S·Allocator .list) (now (space .entry)))) (S·Allocator .limit (now (space .entry) .allocator))) tt ⌝ }
+    ensures space { λ r. ⌜ Asked r (Prepended (S·Allocator .list) (S·Allocator .limit) (now (space .entry)) (now (space .exit)) (isOk r) (zeros (vector-padding (length (taken (S·Allocator .list) (now (space .entry)))) (count * T·Kind .meaning .size) (T·Kind .meaning .alignment)))) (now (space .exit) ≡ now (space .entry)) ⌝ }
+{
+    let used = space.used();
+    let pad = match padding_of_vector(used, count, T::size(), T::alignment()) {
+        None => return Err(Refusal::TooLong),
+        Some(pad) => pad,
+    };
+    match space.prepend_zeros(pad) {
+        Err(e) => Err(Refusal::Store(e)),
+        Ok(()) => Ok(()),
+    }
+}
+
+// Puts a count in front of a vector's elements, and answers the used space: the vector's offset.
+pub fn end_vector<S: Allocator>(space: &mut Space<S>, count: usize) -> Result<u32, Refusal<S::Error>>
+    ensures answer { λ r. ⌜ told r ≡ decided (space-tests (length (taken (S·Allocator .list) (now (space .entry))) + 4) (S·Allocator .limit (now (space .entry) .allocator))) (length (taken (S·Allocator .list) (now (space .entry))) + 4) ⌝ }
+    ensures space { λ r. ⌜ Asked r (Prepended (S·Allocator .list) (S·Allocator .limit) (now (space .entry)) (now (space .exit)) (isOk r) (le 4 count)) (now (space .exit) ≡ now (space .entry)) ⌝ }
+{
+    let used = space.used();
+    if used > MAX_SIZE - 4 {
+        return Err(Refusal::TooLong);
+    }
+    let word = (count % 4294967296) as u32;
+    match space.prepend(&word.to_le_bytes()) {
+        Err(e) => Err(Refusal::Store(e)),
+        Ok(()) => Ok((used + 4) as u32),
     }
 }
 

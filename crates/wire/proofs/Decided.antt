@@ -10,7 +10,7 @@ use Rattle.std.specs.declared.result.Result.the-variants.{Ok, Err}
 use Rattle.std.proofs.shelf.Tests.{cond-true, cond-false, leb-true, leb-false, ltb-false}
 use Rattle.wire.specs.declared.refusal.Refusal.{Refusal}
 use Rattle.wire.specs.declared.refusal.Refusal.the-variants.{TooLong, Store}
-use Rattle.wire.specs.Answers.{Why, Test, Where, decided, number, space-tests}
+use Rattle.wire.specs.Answers.{Why, Test, Where, above, decided, number, space-tests, too-much}
 use Rattle.wire.proofs.Conds.{ltb-yes, ltb-no}
 
 module _ {A : Type 0} (x : A) where
@@ -25,13 +25,20 @@ module _ {A : Type 0} (x : A) where
   pub told-long : (n limit : ℕ) → ltb 2147483647 n ≡ true → decided (space-tests n limit) x ≡ Err TooLong
   told-long n limit e = cond-true (ltb 2147483647 n) _ _ e
 
+  -- the used space after a call is one number, and what it asks of the store may be another
+  pub asks-store : (n m limit : ℕ) → n ≤ 2147483647 → leb m limit ≡ false → decided (too-much n ∷ above m limit ∷ []) x ≡ Err (Store tt)
+  asks-store n m limit low e =
+      cond-false (ltb 2147483647 n) _ _ (ltb-no 2147483647 n low) ∙ cond-true (ltb limit m) _ _ (ltb-yes limit m (leb-false m limit e))
+
+  pub asks-done : (n m limit : ℕ) → n ≤ 2147483647 → leb m limit ≡ true → decided (too-much n ∷ above m limit ∷ []) x ≡ Ok x
+  asks-done n m limit low e =
+      cond-false (ltb 2147483647 n) _ _ (ltb-no 2147483647 n low) ∙ cond-false (ltb limit m) _ _ (ltb-no limit m (leb-true m limit e))
+
   pub told-store : (n limit : ℕ) → n ≤ 2147483647 → leb n limit ≡ false → decided (space-tests n limit) x ≡ Err (Store tt)
-  told-store n limit low e =
-      cond-false (ltb 2147483647 n) _ _ (ltb-no 2147483647 n low) ∙ cond-true (ltb limit n) _ _ (ltb-yes limit n (leb-false n limit e))
+  told-store n limit = asks-store n n limit
 
   pub told-done : (n limit : ℕ) → n ≤ 2147483647 → leb n limit ≡ true → decided (space-tests n limit) x ≡ Ok x
-  told-done n limit low e =
-      cond-false (ltb 2147483647 n) _ _ (ltb-no 2147483647 n low) ∙ cond-false (ltb limit n) _ _ (ltb-no limit n (leb-true n limit e))
+  told-done n limit = asks-done n n limit
 
 -- an accepted call answers what it is to answer
 pub decided-ok : {A : Type 0} (x y : A) (ts : List Test) → Ok y ≡ decided ts x → y ≡ x

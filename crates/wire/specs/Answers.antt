@@ -1,14 +1,14 @@
 -- What a call that writes is told: the first of its tests that fails refuses it.
 use mathlib.Core.Bool.{Bool, true, false, cond, not}
 use mathlib.Core.List.{List, [], _∷_}
-use Prim.Native.Nat.{ℕ}
+use Prim.Native.Nat.{ℕ, _*_}
 use lib.Dec.{eqb, leb, ltb}
 use lib.ListN.{length}
 use Rattle.std.specs.declared.result.Result.{Result}
 use Rattle.std.specs.declared.result.Result.the-variants.{Ok, Err}
 use Rattle.wire.specs.Kind.{stands}
 use Rattle.wire.specs.Pushed.{Pushed, Layout}
-use Rattle.wire.specs.Layouts.{all-stand, pushed-offset, vector-offset, string-space}
+use Rattle.wire.specs.Layouts.{all-stand, pushed-offset, start-space, vector-offset, vector-space, string-space}
 use Rattle.wire.specs.declared.refusal.Refusal.{Refusal}
 use Rattle.wire.specs.declared.refusal.Refusal.the-variants.{Finished, NotFinished, Nested, NotOpen, Slot, Identifier, Offset, Text, TableTooLarge, MissingSlot, TooLong, Store, Full}
 
@@ -99,6 +99,11 @@ push-tests x used limit = not (stands (x .offset) used) because Offset ∷ space
 abbrev pub vector-tests : Layout → List Pushed → (used limit : ℕ) → List Test
 vector-tests k items used limit =
     not (all-stand items used) because Offset ∷ space-tests (vector-offset k items used) limit
+
+-- a vector whose elements are pushed one by one: the used space after its end stays below 2 GiB, and the store can hold its padding
+abbrev pub start-vector-tests : Layout → (count used limit : ℕ) → List Test
+start-vector-tests k count used limit =
+    too-much (vector-space used (count * k .size) (k .alignment)) ∷ above (start-space k count used) limit ∷ []
 
 abbrev pub string-tests : List ℕ → (used limit : ℕ) → List Test
 string-tests text used limit = space-tests (string-space used (length text)) limit

@@ -54,6 +54,10 @@ vector-space used n alignment = used + vector-padding used n alignment + n + 4
 abbrev pub vector-offset : Layout → List Pushed → ℕ → ℕ
 vector-offset k items used = vector-space used (length items * k .size) (k .alignment)
 
+-- the used space after the padding behind a vector's elements, before they are pushed one by one
+abbrev pub start-space : Layout → (count used : ℕ) → ℕ
+start-space k count used = used + vector-padding used (count * k .size) (k .alignment)
+
 -- the zero bytes behind a string of n bytes and its terminator
 abbrev pub string-padding : (used n : ℕ) → ℕ
 string-padding used n = padding (used + n + 1) 4
