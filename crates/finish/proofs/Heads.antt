@@ -40,6 +40,6 @@ length-finish root id prefixed used met =
 
 -- the tests before those of space
 pub passed : {A : Type 0} (x : A) (root : ℕ) (id : Option (List ℕ)) (prefixed : Bool) (used met limit : ℕ) → identifier-stands id ≡ true → stands (Some root) used ≡ true
-  → decided (finish-tests root id prefixed used met limit) x ≡ decided (space-tests (finish-space id prefixed used met) limit) x
+    → decided (finish-tests root id prefixed used met limit) x ≡ decided (space-tests (finish-space id prefixed used met) limit) x
 passed x root id prefixed used met limit four stand =
     decided-pass x (not (identifier-stands id) because Identifier) ((not (stands (Some root) used) because Offset) ∷ space-tests (finish-space id prefixed used met) limit) (ap not four) ∙ decided-pass x (not (stands (Some root) used) because Offset) (space-tests (finish-space id prefixed used met) limit) (ap not stand)

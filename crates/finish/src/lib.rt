@@ -21,13 +21,7 @@ pub fn identifier_part(identifier: Option<&[u8]>) -> Option<&[u8]>
 {
     match identifier {
         None => Some(&[]),
-        Some(id) => {
-            if id.len() == 4 {
-                Some(id)
-            } else {
-                None
-            }
-        }
+        Some(id) => { if id.len() == 4 { Some(id) } else { None } }
     }
 }
 
@@ -66,7 +60,13 @@ fn put_prefix<S: Allocator>(space: &mut Space<S>, size_prefixed: bool)
 
 // Writes the root's offset, with an identifier behind it and the size before it where they are asked for.
 // The whole becomes a multiple of the largest alignment met, at least 4.
-pub fn finish<S: Allocator>(space: &mut Space<S>, root: u32, identifier: Option<&[u8]>, size_prefixed: bool, min_align: usize) -> Result<(), Refusal<S::Error>>
+pub fn finish<S: Allocator>(
+    space: &mut Space<S>,
+    root: u32,
+    identifier: Option<&[u8]>,
+    size_prefixed: bool,
+    min_align: usize,
+) -> Result<(), Refusal<S::Error>>
     ensures answer { λ r. ⌜ told r ≡ decided (finish-tests root (mapped now (identifier .entry)) «size_prefixed» (length (taken (S·Allocator .list) (now (space .entry)))) «min_align» (S·Allocator .limit (now (space .entry) .allocator))) tt ⌝ }
     ensures space { λ r. ⌜ Asked r (Prepended (S·Allocator .list) (S·Allocator .limit) (now (space .entry)) (now (space .exit)) (isOk r) (finish-bytes root (mapped now (identifier .entry)) «size_prefixed» (length (taken (S·Allocator .list) (now (space .entry)))) «min_align»)) (now (space .exit) ≡ now (space .entry)) ⌝ }
 {

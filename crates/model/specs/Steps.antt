@@ -3,14 +3,14 @@ use mathlib.Core.Bool.{Bool, true, false, cond, not, _&&_, _||_}
 use mathlib.Core.List.{List, [], _∷_, _++_}
 use Prim.Native.Nat.{ℕ, _+_, _-_, _*_, _%_, max}
 use lib.Dec.{eqb, leb, ltb}
-use lib.ListN.{length, drop}
+use lib.ListN.{length}
 use Rattle.std.specs.declared.option.Option.{Option}
 use Rattle.std.specs.declared.option.Option.the-variants.{Some, None}
 use Rattle.std.specs.declared.result.Result.{Result}
 use Rattle.std.specs.Options.{isSome}
 use Rattle.wire.specs.declared.refusal.Refusal.the-variants.{Finished, NotFinished, Nested, NotOpen, Slot, Offset, Text, MissingSlot, Full}
 use Rattle.wire.specs.Answers.{Why, Test, _because_, too-much, above, decided, space-tests, push-tests, start-vector-tests, string-tests, vector-tests}
-use Rattle.wire.specs.Bytes.{last, zeros}
+use Rattle.wire.specs.Bytes.{zeros}
 use Rattle.wire.specs.Kind.{stands}
 use Rattle.wire.specs.Layouts.{pushed-bytes, pushed-offset, start-space, string-bytes, string-space, vector-bytes, vector-offset, vector-padding}
 use Rattle.wire.specs.Pushed.{Pushed, Layout}
@@ -20,7 +20,7 @@ use Rattle.model.specs.declared.field_loc.FieldLoc.{FieldLoc}
 use Rattle.model.specs.Calls.{Call, push, push-slot, push-slot-always, start-table, end-table, start-vector, end-vector, create-vector, create-byte-string, create-string, create-shared-string, finish, required, reset, force-defaults, finished-data, Reply, done, at, these}
 use Rattle.model.specs.Finish.{finish-bytes, finish-space, finish-tests}
 use Rattle.model.specs.State.{Nest, nothing, table, vector, State, fresh}
-use Rattle.model.specs.Tables.{equal-object, lookup, no-room, record-slot, slot-stands, table-bytes, table-offset, table-tests, table-vtable, table-vtables}
+use Rattle.model.specs.Tables.{equal-object, lookup, no-room, record-slot, slot-stands, table-bytes, table-offset, table-returns, table-tests, table-vtable, table-vtables}
 
 -- ---- what is open
 
@@ -83,18 +83,19 @@ shared-tests text (Some o) s = []
 
 -- the offset of the vtable of the table at an offset, by its signed word
 abbrev pub vtable-offset : (tab : ℕ) → List ℕ → ℕ
-vtable-offset t us = (t + word 4 (last t us) 0) % 4294967296
+vtable-offset t us = (t + word 4 us (length us - t)) % 4294967296
 
--- a table's word, and its vtable's length word and declared bytes, stand in the used bytes
+-- a vtable's length word and its declared bytes stand in the used bytes
+abbrev pub vtable-stands : (vt : ℕ) → List ℕ → Bool
+vtable-stands v us = stands (Some v) (length us) && (leb 2 v && leb (word 2 us (length us - v)) v)
+
+-- a table's word stands in the used bytes, and its vtable does
 abbrev pub table-stands : (tab : ℕ) → List ℕ → Bool
-table-stands t us =
-    let v = vtable-offset t us in
-    stands (Some t) (length us) && (leb 4 t && (stands (Some v) (length us) && (leb 2 v && leb (word 2 (last v us) 0) v)))
+table-stands t us = stands (Some t) (length us) && (leb 4 t && vtable-stands (vtable-offset t us) us)
 
--- the word at a slot of a table's vtable, 0 beyond it
-abbrev pub slot-word : (tab slot : ℕ) → List ℕ → ℕ
-slot-word t n us =
-    let vt = last (vtable-offset t us) us in cond (ltb n (word 2 vt 0)) (word 2 vt n) 0
+-- the word at a slot of the vtable at an offset, 0 beyond its length
+abbrev pub slot-word : (vt slot : ℕ) → List ℕ → ℕ
+slot-word v n us = cond (ltb n (word 2 us (length us - v))) (word 2 us (length us - v + n)) 0
 
 abbrev pub tests : Call → State → List Test
 tests (push x) s = s .finished because Finished ∷ push-tests x (length (s .used)) (s .limit)
@@ -129,7 +130,7 @@ tests (finish root id prefixed) s =
 tests (required t n) s =
     not (slot-stands n) because Slot
     ∷ (not (table-stands t (s .used)) because Offset)
-    ∷ (eqb (slot-word t n (s .used)) 0 because MissingSlot)
+    ∷ (eqb (slot-word (vtable-offset t (s .used)) n (s .used)) 0 because MissingSlot)
     ∷ []
 tests reset s = []
 tests (force-defaults b) s = []
@@ -141,9 +142,13 @@ table-needs nothing used = used
 table-needs (table start ls) used = table-offset used + length (table-vtable used start ls)
 table-needs (vector start size count) used = used
 
+abbrev pub shared-needs : List ℕ → Option ℕ → ℕ → ℕ
+shared-needs text None used = string-space used (length text)
+shared-needs text (Some o) used = used
+
 abbrev pub needs : Call → State → ℕ
 needs (push x) s = pushed-offset x (length (s .used))
-needs (push-slot n x differs) s = pushed-offset x (length (s .used))
+needs (push-slot n x differs) s = cond (differs || s .forced) (pushed-offset x (length (s .used))) (length (s .used))
 needs (push-slot-always n x) s = pushed-offset x (length (s .used))
 needs start-table s = length (s .used)
 needs (end-table start) s = table-needs (s .nest) (length (s .used))
@@ -152,93 +157,118 @@ needs (end-vector count) s = length (s .used) + 4
 needs (create-vector k items of) s = vector-offset k items (length (s .used))
 needs (create-byte-string text) s = string-space (length (s .used)) (length text)
 needs (create-string text) s = string-space (length (s .used)) (length text)
-needs (create-shared-string text) s = string-space (length (s .used)) (length text)
+needs (create-shared-string text) s = shared-needs text (pooled text s) (length (s .used))
 needs (finish root id prefixed) s = finish-space id prefixed (length (s .used)) (s .met)
 needs (required t n) s = length (s .used)
 needs reset s = length (s .used)
 needs (force-defaults b) s = length (s .used)
 needs finished-data s = length (s .used)
 
+-- the bytes that an accepted call gives back to the store
+abbrev pub ended-returns : Nest → State → ℕ
+ended-returns nothing s = 0
+ended-returns (table start ls) s =
+    let vt = table-vtable (length (s .used)) start ls in table-returns vt (equal-object (s .used) vt (s .vtables))
+ended-returns (vector start size count) s = 0
+
+abbrev pub returns : Call → State → ℕ
+returns (push x) s = 0
+returns (push-slot n x differs) s = 0
+returns (push-slot-always n x) s = 0
+returns start-table s = 0
+returns (end-table start) s = ended-returns (s .nest) s
+returns (start-vector k count) s = 0
+returns (end-vector count) s = 0
+returns (create-vector k items of) s = 0
+returns (create-byte-string text) s = 0
+returns (create-string text) s = 0
+returns (create-shared-string text) s = 0
+returns (finish root id prefixed) s = 0
+returns (required t n) s = 0
+returns reset s = length (s .used)
+returns (force-defaults b) s = 0
+returns finished-data s = 0
+
 -- ---- what an accepted call leaves
 
 -- bytes are put in front of the used ones, with something of an alignment among them
 abbrev pub wrote : List ℕ → (alignment : ℕ) → State → State
 wrote bytes alignment s =
-    record
-    { limit = s .limit
-    ; used = bytes ++ s .used
-    ; nest = s .nest
-    ; finished = s .finished
-    ; met = max (s .met) alignment
-    ; forced = s .forced
-    ; vtables = s .vtables
-    ; strings = s .strings
+    record {
+      limit = s .limit;
+      used = bytes ++ s .used;
+      nest = s .nest;
+      finished = s .finished;
+      met = max (s .met) alignment;
+      forced = s .forced;
+      vtables = s .vtables;
+      strings = s .strings;
     }
 
 abbrev pub opened : Nest → State → State
 opened n s =
-    record
-    { limit = s .limit
-    ; used = s .used
-    ; nest = n
-    ; finished = s .finished
-    ; met = s .met
-    ; forced = s .forced
-    ; vtables = s .vtables
-    ; strings = s .strings
+    record {
+      limit = s .limit;
+      used = s .used;
+      nest = n;
+      finished = s .finished;
+      met = s .met;
+      forced = s .forced;
+      vtables = s .vtables;
+      strings = s .strings;
     }
 
 abbrev pub with-vtables : List ℕ → State → State
 with-vtables vs s =
-    record
-    { limit = s .limit
-    ; used = s .used
-    ; nest = s .nest
-    ; finished = s .finished
-    ; met = s .met
-    ; forced = s .forced
-    ; vtables = vs
-    ; strings = s .strings
+    record {
+      limit = s .limit;
+      used = s .used;
+      nest = s .nest;
+      finished = s .finished;
+      met = s .met;
+      forced = s .forced;
+      vtables = vs;
+      strings = s .strings;
     }
 
 abbrev pub with-string : ℕ → State → State
 with-string o s =
-    record
-    { limit = s .limit
-    ; used = s .used
-    ; nest = s .nest
-    ; finished = s .finished
-    ; met = s .met
-    ; forced = s .forced
-    ; vtables = s .vtables
-    ; strings = s .strings ++ o ∷ []
+    record {
+      limit = s .limit;
+      used = s .used;
+      nest = s .nest;
+      finished = s .finished;
+      met = s .met;
+      forced = s .forced;
+      vtables = s .vtables;
+      strings = s .strings ++ o ∷ [];
     }
 
 -- a finished buffer takes no more, so its vtables are of no use
 abbrev pub closed : State → State
 closed s =
-    record
-    { limit = s .limit
-    ; used = s .used
-    ; nest = s .nest
-    ; finished = true
-    ; met = s .met
-    ; forced = s .forced
-    ; vtables = []
-    ; strings = s .strings
+    record {
+      limit = s .limit;
+      used = s .used;
+      nest = s .nest;
+      finished = true;
+      met = s .met;
+      forced = s .forced;
+      vtables = [];
+      strings = s .strings;
     }
 
 abbrev pub with-forced : Bool → State → State
 with-forced b s =
-    record
-    { limit = s .limit
-    ; used = s .used
-    ; nest = s .nest
-    ; finished = s .finished
-    ; met = s .met
-    ; forced = b
-    ; vtables = s .vtables
-    ; strings = s .strings
+    record {
+      limit = s .limit;
+      used = s .used;
+      nest = s .nest;
+      finished = s .finished;
+      met = s .met;
+      forced = b;
+      vtables = s .vtables;
+      strings = s .strings;
     }
 
 abbrev pub record-in : (slot off : ℕ) → Nest → Nest

@@ -11,7 +11,7 @@ use Rattle.std.proofs.shelf.Tests.{le-leb, lt-leb, leb-true, true≢false, fals
 use Rattle.wire.specs.Bytes.{front, last, unspent, written, zeros}
 use Rattle.space.specs.Taken.{taken, rest, Spaced, Placed, Prepended, Released, Fronted}
 use Rattle.space.specs.declared.Space.{Space}
-use Rattle.wire.proofs.Lists.{length-last, length-front, last-short, front-short, front-last, front-front, last-at, front-at, last-prepended, front-placed, front-unspent, unspent-none, drop-last}
+use Rattle.wire.proofs.Lists.{length-last, length-front, last-short, front-short, front-last, front-front, last-at, front-at, last-prepended, front-placed, front-unspent, unspent-none, drop-last, raised-none}
 
 module _ {S E : Type 0} (list : S → List ℕ) where
   -- the list is the rest and then what is taken
@@ -249,7 +249,7 @@ module _ {S E : Type 0} (list : S → List ℕ) (limit : S → ℕ) where
       let long : length (taken list after) ≡ n = prepended-used before after bytes n size p in
       let more : length bytes ≡ length (taken list after) + 0 - length (taken list before) = omega arith in
       record {
-        settled = p .settled;
+        bounded = omega (arith, p .settled);
         unused = front-only before after (length bytes) more (p .unused);
         still = λ room. p .still (omega arith);
         grown = λ _. omega (arith, parts-length list after);
@@ -262,7 +262,7 @@ module _ {S E : Type 0} (list : S → List ℕ) (limit : S → ℕ) where
   fronted-refused before after bytes n size p =
       let none : 0 ≡ length (taken list after) + 0 - length (taken list before) = omega (arith, ap length (p .used)) in
       record {
-        settled = p .settled;
+        bounded = omega (arith, p .settled);
         unused = front-only before after 0 none (p .unused);
         still = λ room. p .still (omega arith);
         grown = λ no. absurd (true≢false no);
@@ -276,7 +276,7 @@ module _ {S E : Type 0} (list : S → List ℕ) (limit : S → ℕ) where
   fronted-spaced before after ok want n size p =
       let none : 0 ≡ length (taken list after) + 0 - length (taken list before) = omega (arith, ap length (p .kept)) in
       record {
-        settled = spaced-settled before after ok want p;
+        bounded = omega (arith, spaced-settled before after ok want p);
         unused = front-only before after 0 none (unspent-none (rest list after) (rest list before) (p .unused));
         still = λ room. ap length (p .enough (omega (arith, parts-length list before)));
         grown = λ yes. (let r = p .room (not-false ok yes) in omega (arith, parts-length list after, ap length (p .kept)));
@@ -287,9 +287,22 @@ module _ {S E : Type 0} (list : S → List ℕ) (limit : S → ℕ) where
       not-false : (b : Bool) → not b ≡ false → b ≡ true
       not-false true e = refl
       not-false false e = sym e
+
       not-true : (b : Bool) → not b ≡ true → b ≡ false
       not-true false e = refl
       not-true true e = sym e
+
+  -- a space that was left alone
+  pub fronted-same : (s : Space S E) (n : ℕ) → n ≤ length (list (s .allocator)) → Fronted list limit s s n 0 false
+  fronted-same s n room =
+      record {
+        bounded = omega arith;
+        unused = front-only s s 0 (omega arith) (unspent-none (rest list s) (rest list s) (sym (raised-none (length (rest list s)) (rest list s) (omega arith))));
+        still = λ _. refl;
+        grown = λ _. room;
+        full = λ no. absurd (false≢true no);
+        limited = refl;
+      }
 
   -- zero bytes placed over the first `back` used ones, which are then used no more
   pub released : (before mid zeroed after : Space S E) (count back : ℕ) → back ≡ min count (length (taken list before)) → mid .allocator ≡ before .allocator

@@ -2,7 +2,7 @@
 use mathlib.Core.Bool.{Bool, true, false, cond}
 use mathlib.Core.List.{List, [], _++_}
 use mathlib.Core.Path.{_≡_}
-use Prim.Native.Nat.{ℕ, _+_, _-_, _≤_}
+use Prim.Native.Nat.{ℕ, _+_, _-_, _≤_, max}
 use lib.Dec.{leb}
 use lib.ListN.{length}
 use Rattle.wire.specs.Bytes.{front, last, raised, unspent, zeros}
@@ -57,7 +57,8 @@ pub record Released {S E : Type 0} (list : S → List ℕ) (limit : S → ℕ) (
 -- What a call leaves of the store's list in front of the used bytes, and how long the list is then. The call asked for a used space of `need` bytes
 -- and gave back `back` of them, zeroed; refused says that the store refused.
 pub record Fronted {S E : Type 0} (list : S → List ℕ) (limit : S → ℕ) (before after : Space S E) (need back : ℕ) (refused : Bool) : Type 0 where
-  pub settled : after .used ≡ length (taken list after)
+  -- the count of used bytes is theirs, or no more than it was
+  pub bounded : after .used ≤ max (before .used) (length (taken list after))
   pub unused : rest list after ≡ unspent (length (rest list after) - back) (length (taken list after) + back - length (taken list before)) (rest list before) ++ zeros back
   -- the list grows only where it is too short, and then far enough, or to the limit where the store refuses
   pub still : need ≤ length (list (before .allocator)) → length (list (after .allocator)) ≡ length (list (before .allocator))

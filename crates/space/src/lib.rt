@@ -1,15 +1,16 @@
 // Space at the end of a store: what a builder has written so far, newest in front.
-ghost use mathlib.Core.Bool.{true, false};
+ghost use mathlib.Core.Bool.{true, false, cond};
 ghost use mathlib.Core.List.{[]};
 ghost use mathlib.Core.Path.{_≡_};
 ghost use Prim.Native.Nat.{_+_, _≤_, min};
 ghost use lib.Dec.{leb};
 ghost use lib.ListN.{drop, getD, length};
 ghost use Rattle.std.specs.Results.{isOk};
-ghost use Rattle.wire.specs.Bytes.{raised, zeros};
+ghost use Rattle.wire.specs.Bytes.{raised, written, zeros};
 ghost use Rattle.space.specs.Taken.{taken, rest, Spaced, Placed, Prepended, Released};
 use store::allocator::Allocator;
 use store::allocator::Contiguous;
+use wire::range::inside;
 
 // Zero bytes are written in runs of this length.
 const RUN: usize = 64;
@@ -120,6 +121,22 @@ impl<S: Allocator> Space<S> {
             left -= run;
         }
         true
+    }
+
+    // Replaces used bytes from the index `i` on, where they all lie inside the used ones; else says no.
+    pub fn replace(&mut self, i: usize, bytes: &[u8]) -> bool
+        ensures value { λ r. ⌜ r ≡ leb (i + length (now (bytes .entry))) (length (taken (S·Allocator .list) (now (self .entry)))) ⌝ }
+        ensures taken { λ r. ⌜ taken (S·Allocator .list) (now (self .exit)) ≡ cond r (written (taken (S·Allocator .list) (now (self .entry))) i (now (bytes .entry))) (taken (S·Allocator .list) (now (self .entry))) ⌝ }
+        ensures rest { λ _. ⌜ rest (S·Allocator .list) (now (self .exit)) ≡ rest (S·Allocator .list) (now (self .entry)) ⌝ }
+        ensures used { λ _. ⌜ now (self .exit) .used ≡ now (self .entry) .used ⌝ }
+        ensures limit { λ _. ⌜ S·Allocator .limit (now (self .exit) .allocator) ≡ S·Allocator .limit (now (self .entry) .allocator) ⌝ }
+    {
+        let len = self.allocator.len();
+        let used = self.used.min(len);
+        if !inside(i, bytes.len(), used) {
+            return false;
+        }
+        self.allocator.put(len - used + i, bytes)
     }
 
     // Makes room for bytes and puts them in front of the used ones.

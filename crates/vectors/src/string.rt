@@ -30,7 +30,10 @@ pub fn padding_of_string(used: usize, n: usize) -> Option<usize>
 }
 
 // Makes room for a string of the bytes, and answers how many zero bytes go behind it and its terminator.
-pub fn room_for_string<S: Allocator>(space: &mut Space<S>, text: &[u8]) -> Result<usize, Refusal<S::Error>>
+pub fn room_for_string<S: Allocator>(
+    space: &mut Space<S>,
+    text: &[u8],
+) -> Result<usize, Refusal<S::Error>>
     ensures answer { λ r. ⌜ told r ≡ decided (string-tests (now (text .entry)) (length (taken (S·Allocator .list) (now (space .entry)))) (S·Allocator .limit (now (space .entry) .allocator))) (string-padding (length (taken (S·Allocator .list) (now (space .entry)))) (length (now (text .entry)))) ⌝ }
     ensures space { λ r. ⌜ Asked r (Spaced (S·Allocator .list) (S·Allocator .limit) (now (space .entry)) (now (space .exit)) (isOk r) (string-padding (length (taken (S·Allocator .list) (now (space .entry)))) (length (now (text .entry))) + length (now (text .entry)) + 5)) (now (space .exit) ≡ now (space .entry)) ⌝ }
 {
@@ -46,7 +49,10 @@ pub fn room_for_string<S: Allocator>(space: &mut Space<S>, text: &[u8]) -> Resul
 }
 
 // Writes bytes as a string, and answers the used space: the offset of its count.
-pub fn create_byte_string<S: Allocator>(space: &mut Space<S>, text: &[u8]) -> Result<u32, Refusal<S::Error>>
+pub fn create_byte_string<S: Allocator>(
+    space: &mut Space<S>,
+    text: &[u8],
+) -> Result<u32, Refusal<S::Error>>
     ensures answer { λ r. ⌜ told r ≡ decided (string-tests (now (text .entry)) (length (taken (S·Allocator .list) (now (space .entry)))) (S·Allocator .limit (now (space .entry) .allocator))) (string-space (length (taken (S·Allocator .list) (now (space .entry)))) (length (now (text .entry)))) ⌝ }
     ensures space { λ r. ⌜ Asked r (Prepended (S·Allocator .list) (S·Allocator .limit) (now (space .entry)) (now (space .exit)) (isOk r) (string-bytes (now (text .entry)) (length (taken (S·Allocator .list) (now (space .entry)))))) (now (space .exit) ≡ now (space .entry)) ⌝ }
 {

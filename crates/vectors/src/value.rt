@@ -84,7 +84,10 @@ pub fn padding_of_value(used: usize, size: usize, alignment: usize) -> Option<us
 }
 
 // Makes room for a value and the zero bytes behind it, and answers how many these are.
-pub fn room_for_value<S: Allocator, T: Kind>(space: &mut Space<S>, x: &T) -> Result<usize, Refusal<S::Error>>
+pub fn room_for_value<S: Allocator, T: Kind>(
+    space: &mut Space<S>,
+    x: &T,
+) -> Result<usize, Refusal<S::Error>>
     ensures answer { λ r. ⌜ told r ≡ decided (push-tests (pushed (T·Kind .meaning) (T·Kind .lawful) (now (x .entry))) (length (taken (S·Allocator .list) (now (space .entry)))) (S·Allocator .limit (now (space .entry) .allocator))) (push-padding (pushed (T·Kind .meaning) (T·Kind .lawful) (now (x .entry))) (length (taken (S·Allocator .list) (now (space .entry))))) ⌝ }
     ensures space { λ r. ⌜ Asked r (Spaced (S·Allocator .list) (S·Allocator .limit) (now (space .entry)) (now (space .exit)) (isOk r) (push-padding (pushed (T·Kind .meaning) (T·Kind .lawful) (now (x .entry))) (length (taken (S·Allocator .list) (now (space .entry)))) + T·Kind .meaning .size)) (now (space .exit) ≡ now (space .entry)) ⌝ }
 {
@@ -104,7 +107,10 @@ pub fn room_for_value<S: Allocator, T: Kind>(space: &mut Space<S>, x: &T) -> Res
 }
 
 // Writes a value, aligned, and answers the used space: the value's offset.
-pub fn push_value<S: Allocator, T: Kind>(space: &mut Space<S>, x: &T) -> Result<u32, Refusal<S::Error>>
+pub fn push_value<S: Allocator, T: Kind>(
+    space: &mut Space<S>,
+    x: &T,
+) -> Result<u32, Refusal<S::Error>>
     ensures answer { λ r. ⌜ told r ≡ decided (push-tests (pushed (T·Kind .meaning) (T·Kind .lawful) (now (x .entry))) (length (taken (S·Allocator .list) (now (space .entry)))) (S·Allocator .limit (now (space .entry) .allocator))) (pushed-offset (pushed (T·Kind .meaning) (T·Kind .lawful) (now (x .entry))) (length (taken (S·Allocator .list) (now (space .entry))))) ⌝ }
     ensures space { λ r. ⌜ Asked r (Prepended (S·Allocator .list) (S·Allocator .limit) (now (space .entry)) (now (space .exit)) (isOk r) (pushed-bytes (pushed (T·Kind .meaning) (T·Kind .lawful) (now (x .entry))) (length (taken (S·Allocator .list) (now (space .entry)))))) (now (space .exit) ≡ now (space .entry)) ⌝ }
     ensures fits { λ r. ⌜ (isOk r ≡ true → True (T·Kind .meaning .fits (now (x .entry)))) ⌝ }

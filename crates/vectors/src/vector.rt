@@ -108,7 +108,10 @@ pub fn create_vector<S: Allocator, T: Kind>(
 }
 
 // Puts the padding behind a vector of `count` elements, which are then pushed one by one, the last first.
-pub fn start_vector<S: Allocator, T: Kind>(space: &mut Space<S>, count: usize) -> Result<(), Refusal<S::Error>>
+pub fn start_vector<S: Allocator, T: Kind>(
+    space: &mut Space<S>,
+    count: usize,
+) -> Result<(), Refusal<S::Error>>
     ensures answer { λ r. ⌜ told r ≡ decided (start-vector-tests (layout (T·Kind .meaning) (T·Kind .lawful)) count (length (taken (S·Allocator .list) (now (space .entry)))) (S·Allocator .limit (now (space .entry) .allocator))) tt ⌝ }
     ensures space { λ r. ⌜ Asked r (Prepended (S·Allocator .list) (S·Allocator .limit) (now (space .entry)) (now (space .exit)) (isOk r) (zeros (vector-padding (length (taken (S·Allocator .list) (now (space .entry)))) (count * T·Kind .meaning .size) (T·Kind .meaning .alignment)))) (now (space .exit) ≡ now (space .entry)) ⌝ }
 {
@@ -124,7 +127,10 @@ pub fn start_vector<S: Allocator, T: Kind>(space: &mut Space<S>, count: usize) -
 }
 
 // Puts a count in front of a vector's elements, and answers the used space: the vector's offset.
-pub fn end_vector<S: Allocator>(space: &mut Space<S>, count: usize) -> Result<u32, Refusal<S::Error>>
+pub fn end_vector<S: Allocator>(
+    space: &mut Space<S>,
+    count: usize,
+) -> Result<u32, Refusal<S::Error>>
     ensures answer { λ r. ⌜ told r ≡ decided (space-tests (length (taken (S·Allocator .list) (now (space .entry))) + 4) (S·Allocator .limit (now (space .entry) .allocator))) (length (taken (S·Allocator .list) (now (space .entry))) + 4) ⌝ }
     ensures space { λ r. ⌜ Asked r (Prepended (S·Allocator .list) (S·Allocator .limit) (now (space .entry)) (now (space .exit)) (isOk r) (le 4 count)) (now (space .exit) ≡ now (space .entry)) ⌝ }
 {

@@ -68,12 +68,15 @@ decided-other v (t ∷ ts) x y e = by (t .fails) e (decided-other v ts x y)
     by false e rest = rest e
 
 -- an accepted call that takes space stays below 2 GiB
-pub space-low : {A : Type 0} (n limit : ℕ) (v x : A) → Ok v ≡ decided (space-tests n limit) x → n ≤ 2147483647
-space-low n limit v x e = ltb-false 2147483647 n (by (ltb 2147483647 n) (cond (ltb limit n) (Err (Store tt)) (Ok x)) e)
+pub tests-low : {A : Type 0} (n : ℕ) (ts : List Test) (v x : A) → Ok v ≡ decided (too-much n ∷ ts) x → n ≤ 2147483647
+tests-low n ts v x e = ltb-false 2147483647 n (by (ltb 2147483647 n) (decided ts x) e)
   where
     by : (b : Bool) (r : Result _ Why) → Ok v ≡ cond b (Err TooLong) r → b ≡ false
     by false r e = refl
     by true r e = let z : _≡_ {A = ℕ} 0 1 = cc in absurd (omega arith)
+
+pub space-low : {A : Type 0} (n limit : ℕ) (v x : A) → Ok v ≡ decided (space-tests n limit) x → n ≤ 2147483647
+space-low n limit v x e = tests-low n (above n limit ∷ []) v x e
 
 -- an accepted call passed its first test
 pub passed-on : {A : Type 0} (t : Test) (ts : List Test) (v x : A) → Ok v ≡ decided (t ∷ ts) x → (t .fails ≡ false) × (Ok v ≡ decided ts x)

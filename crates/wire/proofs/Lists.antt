@@ -442,3 +442,12 @@ part-zeros from count size n h e =
     ap (take count) (drop-replicate from size 0 ∙ ap zeros all ∙ sym (replicate-append-replicate count more 0))
     ∙ take-at (zeros count) (zeros more) count (length-replicate count 0)
     ∙ ap zeros e
+
+-- a write to the last n bytes leaves what stands before them
+pub front-written : (n : ℕ) (xs : List ℕ) (from : ℕ) (ys : List ℕ) → length xs - n ≤ from → from + length ys ≤ length xs → front n (written xs from ys) ≡ front n xs
+front-written n xs from ys h k =
+    let same : length (written xs from ys) ≡ length xs = length-written xs from ys k in
+    let fits : length xs - n ≤ length (take from xs) = simp length-take (omega arith) in
+    ap (λ (m : ℕ). take (m - n) (written xs from ys)) same
+    ∙ take-append-le (length xs - n) (take from xs) (ys ++ drop (from + length ys) xs) fits
+    ∙ take-take (length xs - n) from xs h

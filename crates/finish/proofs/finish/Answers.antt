@@ -92,9 +92,9 @@ returns-in-Ok g c =
     let rooted-at = c .put-root .last .space in
     let after = c .put-prefix .last .space in
     let bytes : rooted (c .args .root) (c .in-Some .id .now) (c .in-Some-padding-of-value .pad) (length (taken list mid)) ≡ rooted (c .args .root) (identifier-bytes id) (finish-padding id prefixed used met) used =
-      ap (λ (l : List ℕ). rooted (c .args .root) l (c .in-Some-padding-of-value .pad) (length (taken list mid))) (part .1)
-      ∙ ap (λ (n : ℕ). rooted (c .args .root) (identifier-bytes id) n (length (taken list mid))) pad
-      ∙ ap (λ (l : List ℕ). rooted (c .args .root) (identifier-bytes id) (finish-padding id prefixed used met) (length l)) (spaced .kept) in
+    ap (λ (l : List ℕ). rooted (c .args .root) l (c .in-Some-padding-of-value .pad) (length (taken list mid))) (part .1)
+    ∙ ap (λ (n : ℕ). rooted (c .args .root) (identifier-bytes id) n (length (taken list mid))) pad
+    ∙ ap (λ (l : List ℕ). rooted (c .args .root) (identifier-bytes id) (finish-padding id prefixed used met) (length l)) (spaced .kept) in
     let body : List ℕ = rooted (c .args .root) (identifier-bytes id) (finish-padding id prefixed used met) used in
     let first = subst (λ (l : List ℕ). Placed list limit mid rooted-at true l) bytes (c .put-root .ensures) in
     let count : length (taken list rooted-at) ≡ length body + used = ap length (first .used) ∙ length-append body (taken list mid) ∙ ap (λ (l : List ℕ). length body + length l) (spaced .kept) in

@@ -20,7 +20,7 @@ returns-then-size-prefixed g c =
     let room : 4 ≤ length (rest list s) = subst (λ (b : Bool). cond b 4 0 ≤ length (rest list s)) (c .if-size-prefixed .taken) (c .pre .room) in
     let word : c .to-le-bytes .result ≡ le 4 used = c .to-le-bytes .ensures ∙ ap (le 4) (c .used-count .ensures) in
     let put = placed-done list limit s after (c .put-front .result) (le 4 used) (omega arith)
-      (subst (λ (l : List ℕ). Placed list limit s after (c .put-front .result) l) word (c .put-front .ensures)) in
+    (subst (λ (l : List ℕ). Placed list limit s after (c .put-front .result) l) word (c .put-front .ensures)) in
     subst (λ (b : Bool). Placed list limit s after true (prefix-bytes b used)) (sym (c .if-size-prefixed .taken)) put
 
 pub returns-else-size-prefixed : need.returns-else-size-prefixed

@@ -27,7 +27,7 @@ add-distance g c =
     let both = placed-placed list limit s padded named (zeros pad) id first second in
     let sum = length-append id (zeros pad) in
     let behind : c .used .result ≡ length id + pad + used =
-      c .used .ensures ∙ ap length (both .used) ∙ length-append (id ++ zeros pad) (taken list s) ∙ omega arith in
+    c .used .ensures ∙ ap length (both .used) ∙ length-append (id ++ zeros pad) (taken list s) ∙ omega arith in
     omega arith
 
 pub sub-distance : need.sub-distance
@@ -47,7 +47,7 @@ sub-distance g c =
     let both = placed-placed list limit s padded named (zeros pad) id first second in
     let sum = length-append id (zeros pad) in
     let behind : c .used .result ≡ length id + pad + used =
-      c .used .ensures ∙ ap length (both .used) ∙ length-append (id ++ zeros pad) (taken list s) ∙ omega arith in
+    c .used .ensures ∙ ap length (both .used) ∙ length-append (id ++ zeros pad) (taken list s) ∙ omega arith in
     omega arith
 
 pub cast-distance-2 : need.cast-distance-2
@@ -67,7 +67,7 @@ cast-distance-2 g c =
     let both = placed-placed list limit s padded named (zeros pad) id first second in
     let sum = length-append id (zeros pad) in
     let behind : c .used .result ≡ length id + pad + used =
-      c .used .ensures ∙ ap length (both .used) ∙ length-append (id ++ zeros pad) (taken list s) ∙ omega arith in
+    c .used .ensures ∙ ap length (both .used) ∙ length-append (id ++ zeros pad) (taken list s) ∙ omega arith in
     omega arith
 
 pub returns : need.returns
@@ -87,10 +87,10 @@ returns g c =
     let both = placed-placed list limit s padded named (zeros pad) id first second in
     let sum = length-append id (zeros pad) in
     let behind : c .used .result ≡ length id + pad + used =
-      c .used .ensures ∙ ap length (both .used) ∙ length-append (id ++ zeros pad) (taken list s) ∙ omega arith in
+    c .used .ensures ∙ ap length (both .used) ∙ length-append (id ++ zeros pad) (taken list s) ∙ omega arith in
     let far : 4 + c .used .result - c .args .root ≡ 4 + (length id + pad + used) - c .args .root = ap (λ (n : ℕ). 4 + n - c .args .root) behind in
     let word : c .to-le-bytes .result ≡ le 4 (4 + (length id + pad + used) - c .args .root) = c .to-le-bytes .ensures ∙ ap (le 4) far in
     let rest = placed-rest list limit s named (id ++ zeros pad) both in
     let third = placed-done list limit named (c .put-front-2 .last .self) (c .put-front-2 .result) (le 4 (4 + (length id + pad + used) - c .args .root)) (omega arith)
-      (subst (λ (l : List ℕ). Placed list limit named (c .put-front-2 .last .self) (c .put-front-2 .result) l) word (c .put-front-2 .ensures)) in
+    (subst (λ (l : List ℕ). Placed list limit named (c .put-front-2 .last .self) (c .put-front-2 .result) l) word (c .put-front-2 .ensures)) in
     placed-placed list limit s named (c .put-front-2 .last .self) (id ++ zeros pad) (le 4 (4 + (length id + pad + used) - c .args .root)) both third

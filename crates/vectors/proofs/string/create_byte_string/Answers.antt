@@ -58,7 +58,7 @@ cast-result g c =
     let z = length-replicate {A = ℕ} pad 0 in
     let end : zeros (c .in-Continue-pad .pad + 1) ≡ 0 ∷ zeros pad = ap (λ (k : ℕ). zeros (k + 1)) is ∙ ap zeros (add-one pad) in
     let first = placed-done list limit mid padded (c .put-zeros .result) (0 ∷ zeros pad) (omega arith)
-      (subst (λ (l : List ℕ). Placed list limit mid padded (c .put-zeros .result) l) end (c .put-zeros .ensures)) in
+    (subst (λ (l : List ℕ). Placed list limit mid padded (c .put-zeros .result) l) end (c .put-zeros .ensures)) in
     let left = placed-rest list limit mid padded (0 ∷ zeros pad) first in
     let second = placed-done list limit padded texted (c .put-front .result) text (omega arith) (c .put-front .ensures) in
     let both = placed-placed list limit mid padded texted (0 ∷ zeros pad) text first second in
@@ -66,9 +66,9 @@ cast-result g c =
     let rest = placed-rest list limit mid texted (text ++ (0 ∷ zeros pad)) both in
     let word : c .to-le-bytes .result ≡ le 4 (length text) = c .to-le-bytes .ensures in
     let third = placed-done list limit texted after (c .put-front-2 .result) (le 4 (length text)) (omega arith)
-      (subst (λ (l : List ℕ). Placed list limit texted after (c .put-front-2 .result) l) word (c .put-front-2 .ensures)) in
+    (subst (λ (l : List ℕ). Placed list limit texted after (c .put-front-2 .result) l) word (c .put-front-2 .ensures)) in
     let done = prepended-of list limit s mid after _ (string-bytes text used) spaced
-      (placed-placed list limit mid texted after (text ++ (0 ∷ zeros pad)) (le 4 (length text)) both third) (omega arith) in
+    (placed-placed list limit mid texted after (text ++ (0 ∷ zeros pad)) (le 4 (length text)) both third) (omega arith) in
     let offset = prepended-used list limit s after _ _ (length-string text used) done in
     omega (arith, space-low (string-space used (length text)) (limit (s .allocator)) _ _ (room .answer), offset, c .used .ensures)
 
@@ -91,7 +91,7 @@ returns g c =
     let z = length-replicate {A = ℕ} pad 0 in
     let end : zeros (c .in-Continue-pad .pad + 1) ≡ 0 ∷ zeros pad = ap (λ (k : ℕ). zeros (k + 1)) is ∙ ap zeros (add-one pad) in
     let first = placed-done list limit mid padded (c .put-zeros .result) (0 ∷ zeros pad) (omega arith)
-      (subst (λ (l : List ℕ). Placed list limit mid padded (c .put-zeros .result) l) end (c .put-zeros .ensures)) in
+    (subst (λ (l : List ℕ). Placed list limit mid padded (c .put-zeros .result) l) end (c .put-zeros .ensures)) in
     let left = placed-rest list limit mid padded (0 ∷ zeros pad) first in
     let second = placed-done list limit padded texted (c .put-front .result) text (omega arith) (c .put-front .ensures) in
     let both = placed-placed list limit mid padded texted (0 ∷ zeros pad) text first second in
@@ -99,9 +99,9 @@ returns g c =
     let rest = placed-rest list limit mid texted (text ++ (0 ∷ zeros pad)) both in
     let word : c .to-le-bytes .result ≡ le 4 (length text) = c .to-le-bytes .ensures in
     let third = placed-done list limit texted after (c .put-front-2 .result) (le 4 (length text)) (omega arith)
-      (subst (λ (l : List ℕ). Placed list limit texted after (c .put-front-2 .result) l) word (c .put-front-2 .ensures)) in
+    (subst (λ (l : List ℕ). Placed list limit texted after (c .put-front-2 .result) l) word (c .put-front-2 .ensures)) in
     let done = prepended-of list limit s mid after _ (string-bytes text used) spaced
-      (placed-placed list limit mid texted after (text ++ (0 ∷ zeros pad)) (le 4 (length text)) both third) (omega arith) in
+    (placed-placed list limit mid texted after (text ++ (0 ∷ zeros pad)) (le 4 (length text)) both third) (omega arith) in
     let offset = prepended-used list limit s after _ _ (length-string text used) done in
     record {
       answer = ap Ok (c .used .ensures ∙ offset) ∙ decided-other _ (string-tests text used (limit (s .allocator))) _ _ (room .answer);

@@ -58,11 +58,11 @@ cast-result g c =
     let zeroed = subst (λ (k : ℕ). Placed list limit mid padded (c .put-zeros .result) (zeros k)) is (c .put-zeros .ensures) in
     let first = placed-done list limit mid padded (c .put-zeros .result) (zeros pad) (omega arith) zeroed in
     let behind : length (taken list padded) ≡ pad + used =
-      ap length (first .used) ∙ length-append (zeros pad) (taken list mid) ∙ (let k = ap length (spaced .kept) in omega arith) in
+    ap length (first .used) ∙ length-append (zeros pad) (taken list mid) ∙ (let k = ap length (spaced .kept) in omega arith) in
     let size = g .T·Kind .lawful .long (c .args .x .now) (pad + used) in
     let left = placed-rest list limit mid padded (zeros pad) first in
     let second = placed-done list limit padded after (c .put-value .result) (x .bytes (pad + used)) (omega arith)
-      (subst (λ (n : ℕ). Placed list limit padded after (c .put-value .result) (x .bytes n)) behind (c .put-value .ensures .placed)) in
+    (subst (λ (n : ℕ). Placed list limit padded after (c .put-value .result) (x .bytes n)) behind (c .put-value .ensures .placed)) in
     let long = length-append (x .bytes (pad + used)) (zeros pad) in
     let done = prepended-of list limit s mid after _ (pushed-bytes x used) spaced (placed-placed list limit mid padded after (zeros pad) (x .bytes (pad + used)) first second) (omega arith) in
     let offset = prepended-used list limit s after _ _ (length-pushed x used) done in
@@ -88,16 +88,16 @@ returns g c =
     let zeroed = subst (λ (k : ℕ). Placed list limit mid padded (c .put-zeros .result) (zeros k)) is (c .put-zeros .ensures) in
     let first = placed-done list limit mid padded (c .put-zeros .result) (zeros pad) (omega arith) zeroed in
     let behind : length (taken list padded) ≡ pad + used =
-      ap length (first .used) ∙ length-append (zeros pad) (taken list mid) ∙ (let k = ap length (spaced .kept) in omega arith) in
+    ap length (first .used) ∙ length-append (zeros pad) (taken list mid) ∙ (let k = ap length (spaced .kept) in omega arith) in
     let size = g .T·Kind .lawful .long (c .args .x .now) (pad + used) in
     let left = placed-rest list limit mid padded (zeros pad) first in
     let second = placed-done list limit padded after (c .put-value .result) (x .bytes (pad + used)) (omega arith)
-      (subst (λ (n : ℕ). Placed list limit padded after (c .put-value .result) (x .bytes n)) behind (c .put-value .ensures .placed)) in
+    (subst (λ (n : ℕ). Placed list limit padded after (c .put-value .result) (x .bytes n)) behind (c .put-value .ensures .placed)) in
     let long = length-append (x .bytes (pad + used)) (zeros pad) in
     let done = prepended-of list limit s mid after _ (pushed-bytes x used) spaced (placed-placed list limit mid padded after (zeros pad) (x .bytes (pad + used)) first second) (omega arith) in
     let offset = prepended-used list limit s after _ _ (length-pushed x used) done in
     let put : c .put-value .result ≡ true =
-      c .put-value .ensures .placed .answer ∙ ap (λ (n : ℕ). leb (length (taken list padded) + length (x .bytes n)) (length (list (padded .allocator)))) behind ∙ sym (second .answer) in
+    c .put-value .ensures .placed .answer ∙ ap (λ (n : ℕ). leb (length (taken list padded) + length (x .bytes n)) (length (list (padded .allocator)))) behind ∙ sym (second .answer) in
     record {
       answer = ap Ok (c .used .ensures ∙ offset) ∙ decided-other _ (push-tests x used (limit (s .allocator))) _ _ (room .answer);
       space = done;

@@ -27,7 +27,7 @@ returns-in-None g c =
     let used = length (taken list s) in
     let n = pushed-offset x used in
     let stand : stands (x .offset) used ≡ true =
-      ap (λ (o : Option ℕ). stands o used) (sym (c .offset .ensures)) ∙ ap (stands (c .offset .result)) (sym (c .used-used .ensures)) ∙ sym (c .if-not-offset-stands .ensures tt) in
+    ap (λ (o : Option ℕ). stands o used) (sym (c .offset .ensures)) ∙ ap (stands (c .offset .result)) (sym (c .used-used .ensures)) ∙ sym (c .if-not-offset-stands .ensures tt) in
     let passed = decided-pass (push-padding x used) (not (stands (x .offset) used) because Offset) (space-tests n (limit (s .allocator))) (ap not stand) in
     let same = same-value-space (c .used-used .result) used (c .size-size .result) (m .size) (c .alignment .result) (m .alignment) (c .used-used .ensures) (c .size-size .ensures) (c .alignment .ensures) in
     let long = too-long _ _ (c .in-None .ensures tt) in
@@ -43,7 +43,7 @@ returns-in-Err g c =
     let used = length (taken list s) in
     let n = pushed-offset x used in
     let stand : stands (x .offset) used ≡ true =
-      ap (λ (o : Option ℕ). stands o used) (sym (c .offset .ensures)) ∙ ap (stands (c .offset .result)) (sym (c .used-used .ensures)) ∙ sym (c .if-not-offset-stands .ensures tt) in
+    ap (λ (o : Option ℕ). stands o used) (sym (c .offset .ensures)) ∙ ap (stands (c .offset .result)) (sym (c .used-used .ensures)) ∙ sym (c .if-not-offset-stands .ensures tt) in
     let passed = decided-pass (push-padding x used) (not (stands (x .offset) used) because Offset) (space-tests n (limit (s .allocator))) (ap not stand) in
     let same = same-value-space (c .used-used .result) used (c .size-size .result) (m .size) (c .alignment .result) (m .alignment) (c .used-used .ensures) (c .size-size .ensures) (c .alignment .ensures) in
     let found = found-padding _ _ _ (c .in-Some .ensures tt) in
@@ -64,7 +64,7 @@ returns-in-Ok g c =
     let used = length (taken list s) in
     let n = pushed-offset x used in
     let stand : stands (x .offset) used ≡ true =
-      ap (λ (o : Option ℕ). stands o used) (sym (c .offset .ensures)) ∙ ap (stands (c .offset .result)) (sym (c .used-used .ensures)) ∙ sym (c .if-not-offset-stands .ensures tt) in
+    ap (λ (o : Option ℕ). stands o used) (sym (c .offset .ensures)) ∙ ap (stands (c .offset .result)) (sym (c .used-used .ensures)) ∙ sym (c .if-not-offset-stands .ensures tt) in
     let passed = decided-pass (push-padding x used) (not (stands (x .offset) used) because Offset) (space-tests n (limit (s .allocator))) (ap not stand) in
     let same = same-value-space (c .used-used .result) used (c .size-size .result) (m .size) (c .alignment .result) (m .alignment) (c .used-used .ensures) (c .size-size .ensures) (c .alignment .ensures) in
     let found = found-padding _ _ _ (c .in-Some .ensures tt) in

@@ -23,7 +23,7 @@ returns-in-Err g c =
     let found = found-padding _ _ _ (c .in-Some .ensures tt) in
     let pad = found .1 ∙ same-padding (c .used-used .result) used (c .args .count) (c .args .count) (c .size .result) (m .size) (c .alignment .result) (m .alignment) (c .used-used .ensures) refl (c .size .ensures) (c .alignment .ensures) in
     let low : vector-space used n (m .alignment) ≤ 2147483647 =
-      omega (arith, found .0, same-space (c .used-used .result) used (c .args .count) (c .args .count) (c .size .result) (m .size) (c .alignment .result) (m .alignment) (c .used-used .ensures) refl (c .size .ensures) (c .alignment .ensures)) in
+    omega (arith, found .0, same-space (c .used-used .result) used (c .args .count) (c .args .count) (c .size .result) (m .size) (c .alignment .result) (m .alignment) (c .used-used .ensures) refl (c .size .ensures) (c .alignment .ensures)) in
     let size : used + length (zeros (vector-padding used n (m .alignment))) ≡ used + vector-padding used n (m .alignment) = simp length-replicate in
     let done = subst (λ (k : ℕ). Prepended list limit s after false (zeros k)) pad (c .in-Err .ensures tt) in
     record {
@@ -43,7 +43,7 @@ returns-in-Ok g c =
     let found = found-padding _ _ _ (c .in-Some .ensures tt) in
     let pad = found .1 ∙ same-padding (c .used-used .result) used (c .args .count) (c .args .count) (c .size .result) (m .size) (c .alignment .result) (m .alignment) (c .used-used .ensures) refl (c .size .ensures) (c .alignment .ensures) in
     let low : vector-space used n (m .alignment) ≤ 2147483647 =
-      omega (arith, found .0, same-space (c .used-used .result) used (c .args .count) (c .args .count) (c .size .result) (m .size) (c .alignment .result) (m .alignment) (c .used-used .ensures) refl (c .size .ensures) (c .alignment .ensures)) in
+    omega (arith, found .0, same-space (c .used-used .result) used (c .args .count) (c .args .count) (c .size .result) (m .size) (c .alignment .result) (m .alignment) (c .used-used .ensures) refl (c .size .ensures) (c .alignment .ensures)) in
     let size : used + length (zeros (vector-padding used n (m .alignment))) ≡ used + vector-padding used n (m .alignment) = simp length-replicate in
     let done = subst (λ (k : ℕ). Prepended list limit s after true (zeros k)) pad (c .in-Ok .ensures tt) in
     record {
