@@ -1,0 +1,5 @@
+pub mod Places
+pub mod Objects
+pub mod VTables
+pub mod Rewrites
+pub mod Ending

@@ -1,0 +1,4 @@
+pub mod Records
+pub mod Fields
+pub mod Writing
+pub mod Ends
