@@ -61,11 +61,14 @@ slot-tests n x s =
     ∷ (not (stands (x .offset) (length (s .used))) because Offset)
     ∷ []
 
+-- a 257th slot in one table
+abbrev pub full-test : (slot : ℕ) → Nest → Test
+full-test n nest = (not (isSome (lookup n (records nest))) && no-room (length (records nest))) because Full
+
 -- and it is recorded
 abbrev pub record-tests : (slot : ℕ) → Pushed → State → List Test
 record-tests n x s =
-    space-tests (pushed-offset x (length (s .used))) (s .limit)
-    ++ ((not (isSome (lookup n (records (s .nest)))) && no-room (length (records (s .nest)))) because Full) ∷ []
+    space-tests (pushed-offset x (length (s .used))) (s .limit) ++ full-test n (s .nest) ∷ []
 
 abbrev pub end-table-tests : Nest → State → List Test
 end-table-tests nothing s = []

@@ -1,7 +1,7 @@
 -- What a call is told, by its tests.
 use mathlib.Core.Path.{_≡_, refl, sym, ap, _∙_}
 use mathlib.Core.Bool.{Bool, true, false, cond}
-use mathlib.Core.List.{List, [], _∷_}
+use mathlib.Core.List.{List, [], _∷_, _++_}
 use Prim.Native.Nat.{ℕ, _<_, _≤_}
 use native.Mathlib.Omega.{arith}
 use lib.Dec.{leb, ltb}
@@ -85,6 +85,23 @@ passed-on t ts v x e = by (t .fails) e
     by : (b : Bool) → Ok v ≡ cond b (Err (t .why)) (decided ts x) → (b ≡ false) × (Ok v ≡ decided ts x)
     by false e = (refl, e)
     by true e = let z : _≡_ {A = ℕ} 0 1 = cc in absurd (omega arith)
+
+-- tests before others
+pub decided-err-more : {A : Type 0} (w : Why) (ts us : List Test) (x : A) → Err w ≡ decided ts x → Err w ≡ decided (ts ++ us) x
+decided-err-more w [] us x e = let z : _≡_ {A = ℕ} 0 1 = cc in absurd (omega arith)
+decided-err-more w (t ∷ ts) us x e = by (t .fails) e (decided-err-more w ts us x)
+  where
+    by : (b : Bool) → Err w ≡ cond b (Err (t .why)) (decided ts x) → (Err w ≡ decided ts x → Err w ≡ decided (ts ++ us) x) → Err w ≡ cond b (Err (t .why)) (decided (ts ++ us) x)
+    by true e rest = e
+    by false e rest = rest e
+
+pub decided-ok-more : {A B : Type 0} (v x : A) (ts us : List Test) (y : B) → Ok v ≡ decided ts x → decided (ts ++ us) y ≡ decided us y
+decided-ok-more v x [] us y e = refl
+decided-ok-more v x (t ∷ ts) us y e = by (t .fails) e (decided-ok-more v x ts us y)
+  where
+    by : (b : Bool) → Ok v ≡ cond b (Err (t .why)) (decided ts x) → (Ok v ≡ decided ts x → decided (ts ++ us) y ≡ decided us y) → cond b (Err (t .why)) (decided (ts ++ us) y) ≡ decided us y
+    by true e rest = let z : _≡_ {A = ℕ} 0 1 = cc in absurd (omega arith)
+    by false e rest = rest e
 
 -- what is known of a refusing store serves for another fact
 pub asked-refused : {E : Type 0} (e : Refusal E) (P P′ Q : Type 0) → (P → P′) → Where (leb 12 (number e)) P Q → Where (leb 12 (number e)) P′ Q
