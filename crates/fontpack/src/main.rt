@@ -1,7 +1,11 @@
-// Puts a glyph's name and a list of kerns into each store, reads them back, and meets a limit.
+// Puts a glyph's name and a list of kerns into each store, reads them back, and meets a limit; then builds a whole
+// font over each.
 mod job;
+mod pack;
+mod pack_report;
 mod report;
 
+use pack_report::report_pack;
 use report::report_on;
 use std::error::AnyError;
 use store::doubling::Doubling;
@@ -31,7 +35,15 @@ fn run(rt: &LibcRuntime) -> Result<(), AnyError> {
         rt,
         "Quota of 20,000 over Still",
         Quota::new(Still::new(), 20000),
-    )
+    )?;
+    run_packs(rt)
+}
+
+fn run_packs(rt: &LibcRuntime) -> Result<(), AnyError> {
+    let mut wide = [0; 256];
+    report_pack(rt, "Doubling over 256 bytes", Doubling::new(&mut wide))?;
+    report_pack(rt, "Still", Still::new())?;
+    report_pack(rt, "Quota of 100 over Still", Quota::new(Still::new(), 100))
 }
 
 fn main(rt: LibcRuntime) -> Result<(), AnyError> {

@@ -57,7 +57,7 @@ where
 }
 
 // The used bytes in rows of sixteen.
-fn report_bytes(rt: &LibcRuntime, bytes: &[u8]) -> Result<(), AnyError> {
+pub fn report_bytes(rt: &LibcRuntime, bytes: &[u8]) -> Result<(), AnyError> {
     let used = bytes.len();
     println!(rt, "  {used} bytes are used:")?;
     for row in bytes.chunks(16) {
@@ -100,7 +100,7 @@ fn report_kerns(rt: &LibcRuntime, bytes: &[u8], places: Places) -> Result<(), An
     Ok(())
 }
 
-fn report_refusal<E: Debug>(rt: &LibcRuntime, refusal: &Refusal<E>) -> Result<(), AnyError> {
+pub fn report_refusal<E: Debug>(rt: &LibcRuntime, refusal: &Refusal<E>) -> Result<(), AnyError> {
     let number = refusal.number();
     println!(rt, "  refused by {number}, {refusal:?}")?;
     Ok(())
