@@ -1,4 +1,5 @@
 // Builds FlatBuffers in the space of any store.
+#![tactic(auto)]
 pub mod builder;
 pub mod data;
 pub mod finish;

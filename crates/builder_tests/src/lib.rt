@@ -1,4 +1,5 @@
 // The builder's worked examples, byte for byte, through the real code.
+#![tactic(auto)]
 #[cfg(test)]
 mod tests {
     use builder::builder::FlatBufferBuilder;

@@ -1,4 +1,5 @@
 // Worked examples of the builder's calls.
+#![tactic(auto)]
 ghost use Rattle.std.specs.Prelude.{◌≡◌, true};
 ghost use Rattle.examples.specs.Examples.{Buffers, Fields, Strings, Told};
 

@@ -1,4 +1,5 @@
 // What kinds push and read, byte for byte, and how vectors and strings lie in a store.
+#![tactic(auto)]
 #[cfg(test)]
 mod tests {
     use font::kern::Kern;

@@ -1,6 +1,6 @@
 -- What a reading that accepts has counted, by induction on shapes.
 use Rattle.std.proofs.Common.{◌≡◌, ℕ, zero, suc, ◌+◌, ◌-◌, ◌*◌, ◌^◌, ◌<◌, ◌≤◌, min, max, Bool, true, false, cond, ◌||◌, eqb, ltb, leb, List, [], ◌∷◌, ◌++◌, length, get_or, Some, None, Option, sym, refl, ap, ◌∙◌, subst, arith, w32, to_z}
-use Rattle.std.proofs.lemmas.Bool.{leb-true, ltb-true, cond_true}
+use Rattle.std.proofs.lemmas.Bool.{leb-true, ltb-true, cond-true}
 use Rattle.reading.specs.declared.options.Counters.{Counters}
 use Rattle.reading.specs.declared.options.VerifierOptions.{VerifierOptions}
 use Rattle.reading.specs.declared.invalid.TraceRecord.{TraceRecord}

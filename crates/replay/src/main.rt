@@ -1,4 +1,5 @@
 // Reads a script of calls on a builder, one to a line, and prints an answer to each.
+#![tactic(auto)]
 mod answer;
 mod call;
 mod fault;

@@ -1,4 +1,5 @@
 // Edge cases of the stores and of space in them, run.
+#![tactic(auto)]
 #[cfg(test)]
 mod tests {
     use space::Space;

@@ -3,7 +3,7 @@ use Rattle.std.proofs.Common.{◌≡◌, ℕ, zero, suc, ◌+◌, ◌-◌, ◌*�
 use Rattle.std.specs.Str.{bytes_eq}
 use Rattle.std.proofs.lemmas.Slice.Eq.{bytes_eq-Decides}
 use Rattle.std.proofs.lemmas.List.{get_or-take, get_or-drop, ext_get_or, drop-drop}
-use Rattle.std.proofs.lemmas.Bool.{cond_true, cond_false}
+use Rattle.std.proofs.lemmas.Bool.{cond-true, cond-false}
 use Rattle.wire.specs.Bytes.{last}
 use Rattle.wire.specs.Words.{le}
 use Rattle.model.specs.Tables.{equal_object}
@@ -77,12 +77,12 @@ module _ (us hs bs : List ℕ) (o p : ℕ) (at : p ≡ length us - o) where
 pub found_some : (us bs os : List ℕ) (i : ℕ) → i < length os → ((k : ℕ) → k < i → bytes_eq (take (length bs) (last (get_or os k 0) us)) bs ≡ false)
     → bytes_eq (take (length bs) (last (get_or os i 0) us)) bs ≡ true → Some (get_or os i 0) ≡ equal_object us bs os
 found_some us bs [] i h below here = absurd (omega arith)
-found_some us bs (o ∷ os) zero h below here = sym (cond_true (bytes_eq (take (length bs) (last o us)) bs) (Some o) (equal_object us bs os) here)
+found_some us bs (o ∷ os) zero h below here = sym (cond-true (bytes_eq (take (length bs) (last o us)) bs) (Some o) (equal_object us bs os) here)
 found_some us bs (o ∷ os) (suc i) h below here =
     found_some us bs os i (omega arith) (λ k l. below (suc k) (omega arith)) here
-    ∙ sym (cond_false (bytes_eq (take (length bs) (last o us)) bs) (Some o) (equal_object us bs os) (below 0 (omega arith)))
+    ∙ sym (cond-false (bytes_eq (take (length bs) (last o us)) bs) (Some o) (equal_object us bs os) (below 0 (omega arith)))
 
 pub found_none : (us bs os : List ℕ) → ((k : ℕ) → k < length os → bytes_eq (take (length bs) (last (get_or os k 0) us)) bs ≡ false) → None ≡ equal_object us bs os
 found_none us bs [] h = refl
 found_none us bs (o ∷ os) h =
-    found_none us bs os (λ k l. h (suc k) (omega arith)) ∙ sym (cond_false (bytes_eq (take (length bs) (last o us)) bs) (Some o) (equal_object us bs os) (h 0 (omega arith)))
+    found_none us bs os (λ k l. h (suc k) (omega arith)) ∙ sym (cond-false (bytes_eq (take (length bs) (last o us)) bs) (Some o) (equal_object us bs os) (h 0 (omega arith)))

@@ -1,7 +1,7 @@
 -- Laws of `place_of`, `record-slot` and `lookup`.
 use Rattle.std.proofs.Common.{◌≡◌, ℕ, zero, suc, ◌+◌, ◌-◌, ◌<◌, ◌≤◌, Bool, true, cond, not, ◌&&◌, eqb, leb, List, [], ◌∷◌, ◌++◌, length, get_or, take, set, is_some, Some, None, Option, sym, refl, ap, ◌∙◌, subst, ⊎_elim, arith, length-set}
 use lib.Seq.{take-set-lt}
-use Rattle.std.proofs.lemmas.Bool.{eqb-true, eq-eqb, ne_eqb, cond_both, cases_eq, cases_lt, cond_true, cond_false, le-leb, lt-leb}
+use Rattle.std.proofs.lemmas.Bool.{eqb-true, eq-eqb, ne_eqb, cond_both, cases_eq, cases_lt, cond-true, cond-false, le-leb, lt-leb}
 use Rattle.std.proofs.lemmas.List.{take_more_set, length_push, get_or_append_left, get_or_push, length-take-le, get_or-take}
 use Rattle.model.specs.declared.field_loc.FieldLoc.{FieldLoc}
 use Rattle.model.specs.Tables.{lookup, record_slot, no_room, distance, slot_stands}
@@ -15,16 +15,16 @@ place_le (r ∷ rs) s =
 -- the first record of the slot is at i
 pub place_first : (rs : List FieldLoc) (s i : ℕ) → i < length rs → ((k : ℕ) → k < i → (get_or rs k none).id ≡ s → ⊥) → (get_or rs i none).id ≡ s → place_of rs s ≡ i
 place_first [] s i h below here = absurd (omega arith)
-place_first (r ∷ rs) s zero h below here = cond_true (eqb s r.id) 0 (suc (place_of rs s)) (eq-eqb s r.id (sym here))
+place_first (r ∷ rs) s zero h below here = cond-true (eqb s r.id) 0 (suc (place_of rs s)) (eq-eqb s r.id (sym here))
 place_first (r ∷ rs) s (suc i) h below here =
-    cond_false (eqb s r.id) 0 (suc (place_of rs s)) (ne_eqb s r.id (λ e. below 0 (omega arith) (sym e)))
+    cond-false (eqb s r.id) 0 (suc (place_of rs s)) (ne_eqb s r.id (λ e. below 0 (omega arith) (sym e)))
     ∙ ap suc (place_first rs s i (omega arith) (λ k l. below (suc k) (omega arith)) here)
 
 -- the slot has no record
 pub place_none : (rs : List FieldLoc) (s : ℕ) → ((k : ℕ) → k < length rs → (get_or rs k none).id ≡ s → ⊥) → place_of rs s ≡ length rs
 place_none [] s below = refl
 place_none (r ∷ rs) s below =
-    cond_false (eqb s r.id) 0 (suc (place_of rs s)) (ne_eqb s r.id (λ e. below 0 (omega arith) (sym e)))
+    cond-false (eqb s r.id) 0 (suc (place_of rs s)) (ne_eqb s r.id (λ e. below 0 (omega arith) (sym e)))
     ∙ ap suc (place_none rs s (λ k l. below (suc k) (omega arith)))
 
 -- the record at the slot's place is the slot's
@@ -44,46 +44,46 @@ place_front : (rs ys : List FieldLoc) (s : ℕ) → place_of rs s < length rs �
 place_front [] ys s = λ h. absurd (omega arith)
 place_front (r ∷ rs) ys s =
     cond_both (eqb s r.id) 0 (suc (place_of rs s)) (λ x. x < suc (length rs) → cond (eqb s r.id) 0 (suc (place_of (rs ++ ys) s)) ≡ x)
-    (λ e h. cond_true (eqb s r.id) 0 (suc (place_of (rs ++ ys) s)) e)
-    (λ e h. cond_false (eqb s r.id) 0 (suc (place_of (rs ++ ys) s)) e ∙ ap suc (place_front rs ys s (omega arith)))
+    (λ e h. cond-true (eqb s r.id) 0 (suc (place_of (rs ++ ys) s)) e)
+    (λ e h. cond-false (eqb s r.id) 0 (suc (place_of (rs ++ ys) s)) e ∙ ap suc (place_front rs ys s (omega arith)))
 
 -- a new record of a slot that had none
 place_new : (rs : List FieldLoc) (w : FieldLoc) → place_of rs w.id ≡ length rs → place_of (rs ++ w ∷ []) w.id ≡ length rs
-place_new [] w = λ h. cond_true (eqb w.id w.id) 0 1 (eq-eqb w.id w.id refl)
+place_new [] w = λ h. cond-true (eqb w.id w.id) 0 1 (eq-eqb w.id w.id refl)
 place_new (r ∷ rs) w =
     cond_both (eqb w.id r.id) 0 (suc (place_of rs w.id))
     (λ x. x ≡ suc (length rs) → cond (eqb w.id r.id) 0 (suc (place_of (rs ++ w ∷ []) w.id)) ≡ suc (length rs))
     (λ e h. absurd (omega arith))
-    (λ e h. cond_false (eqb w.id r.id) 0 (suc (place_of (rs ++ w ∷ []) w.id)) e ∙ ap suc (place_new rs w (omega arith)))
+    (λ e h. cond-false (eqb w.id r.id) 0 (suc (place_of (rs ++ w ∷ []) w.id)) e ∙ ap suc (place_new rs w (omega arith)))
 
 recorded_old : (rs : List FieldLoc) (s o : ℕ) → place_of rs s < length rs → record_slot s o rs ≡ set rs (place_of rs s) (record { off = o; id = s })
 recorded_old [] s o = λ h. absurd (omega arith)
 recorded_old (r ∷ rs) s o =
     cond_both (eqb s r.id) 0 (suc (place_of rs s)) (λ x. x < suc (length rs) → record_slot s o (r ∷ rs) ≡ set (r ∷ rs) x (record { off = o; id = s }))
-    (λ e h. cond_true (eqb s r.id) (record { off = o; id = s } ∷ rs) (r ∷ record_slot s o rs) e)
-    (λ e h. cond_false (eqb s r.id) (record { off = o; id = s } ∷ rs) (r ∷ record_slot s o rs) e ∙ ap (λ xs. r ∷ xs) (recorded_old rs s o (omega arith)))
+    (λ e h. cond-true (eqb s r.id) (record { off = o; id = s } ∷ rs) (r ∷ record_slot s o rs) e)
+    (λ e h. cond-false (eqb s r.id) (record { off = o; id = s } ∷ rs) (r ∷ record_slot s o rs) e ∙ ap (λ xs. r ∷ xs) (recorded_old rs s o (omega arith)))
 
 recorded_new : (rs : List FieldLoc) (s o : ℕ) → place_of rs s ≡ length rs → record_slot s o rs ≡ rs ++ record { off = o; id = s } ∷ []
 recorded_new [] s o = λ h. refl
 recorded_new (r ∷ rs) s o =
     cond_both (eqb s r.id) 0 (suc (place_of rs s)) (λ x. x ≡ suc (length rs) → record_slot s o (r ∷ rs) ≡ (r ∷ rs) ++ record { off = o; id = s } ∷ [])
     (λ e h. absurd (omega arith))
-    (λ e h. cond_false (eqb s r.id) (record { off = o; id = s } ∷ rs) (r ∷ record_slot s o rs) e ∙ ap (λ xs. r ∷ xs) (recorded_new rs s o (omega arith)))
+    (λ e h. cond-false (eqb s r.id) (record { off = o; id = s } ∷ rs) (r ∷ record_slot s o rs) e ∙ ap (λ xs. r ∷ xs) (recorded_new rs s o (omega arith)))
 
 -- the offset recorded for a slot stands at its place
 lookup_found : (rs : List FieldLoc) (s : ℕ) → place_of rs s < length rs → lookup s rs ≡ Some (get_or rs (place_of rs s) none).off
 lookup_found [] s = λ h. absurd (omega arith)
 lookup_found (r ∷ rs) s =
     cond_both (eqb s r.id) 0 (suc (place_of rs s)) (λ x. x < suc (length rs) → lookup s (r ∷ rs) ≡ Some (get_or (r ∷ rs) x none).off)
-    (λ e h. cond_true (eqb s r.id) (Some r.off) (lookup s rs) e)
-    (λ e h. cond_false (eqb s r.id) (Some r.off) (lookup s rs) e ∙ lookup_found rs s (omega arith))
+    (λ e h. cond-true (eqb s r.id) (Some r.off) (lookup s rs) e)
+    (λ e h. cond-false (eqb s r.id) (Some r.off) (lookup s rs) e ∙ lookup_found rs s (omega arith))
 
 lookup_missing : (rs : List FieldLoc) (s : ℕ) → length rs ≤ place_of rs s → lookup s rs ≡ None
 lookup_missing [] s = λ h. refl
 lookup_missing (r ∷ rs) s =
     cond_both (eqb s r.id) 0 (suc (place_of rs s)) (λ x. suc (length rs) ≤ x → lookup s (r ∷ rs) ≡ None)
     (λ e h. absurd (omega arith))
-    (λ e h. cond_false (eqb s r.id) (Some r.off) (lookup s rs) e ∙ lookup_missing rs s (omega arith))
+    (λ e h. cond-false (eqb s r.id) (Some r.off) (lookup s rs) e ∙ lookup_missing rs s (omega arith))
 
 -- nothing is recorded for a slot before its place
 pub lookup_before : (rs : List FieldLoc) (s j : ℕ) → j ≤ place_of rs s → lookup s (take j rs) ≡ None
@@ -92,7 +92,7 @@ lookup_before [] s (suc j) h = refl
 lookup_before (r ∷ rs) s (suc j) h =
     cond_both (eqb s r.id) 0 (suc (place_of rs s)) (λ x. suc j ≤ x → lookup s (r ∷ take j rs) ≡ None)
     (λ e l. absurd (omega arith))
-    (λ e l. cond_false (eqb s r.id) (Some r.off) (lookup s (take j rs)) e ∙ lookup_before rs s j (omega arith)) h
+    (λ e l. cond-false (eqb s r.id) (Some r.off) (lookup s (take j rs)) e ∙ lookup_before rs s j (omega arith)) h
 
 -- a 257th record is one at the place 256
 full_place : (rs : List FieldLoc) (s : ℕ) → length rs ≤ 256 → (not (is_some (lookup s rs)) && no_room (length rs)) ≡ eqb (place_of rs s) 256

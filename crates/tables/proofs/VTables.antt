@@ -1,7 +1,7 @@
 -- Laws of a vtable's length and words.
 use Rattle.std.proofs.Common.{◌≡◌, ℕ, zero, suc, ◌+◌, ◌-◌, ◌*◌, ◌/◌, ◌%◌, ◌<◌, ◌≤◌, max, Bool, true, false, cond, ◌&&◌, eqb, leb, List, [], ◌∷◌, ◌++◌, length, get_or, take, drop, Some, None, Option, sym, refl, ap, ◌∙◌, ⊎_elim, arith}
 use Rattle.std.proofs.lemmas.List.{take_more, take_all}
-use Rattle.std.proofs.lemmas.Bool.{and_parts, cases_eq, cond_true, cond_false, eq-eqb, ne_eqb, eqb-true, leb-true}
+use Rattle.std.proofs.lemmas.Bool.{and_parts, cases_eq, cond-true, cond-false, eq-eqb, ne_eqb, eqb-true, leb-true}
 use Rattle.wire.specs.Bytes.{written, zeros}
 use Rattle.wire.specs.Words.{le}
 use Rattle.wire.proofs.Lists.{written_append}
@@ -75,11 +75,11 @@ vtable_at t size ls (suc (suc (suc (suc j)))) w slots l a b d =
 -- ---- one more record's word
 
 lookup_other : (ls : List FieldLoc) (r : FieldLoc) (s : ℕ) → (s ≡ r.id → ⊥) → lookup s (ls ++ r ∷ []) ≡ lookup s ls
-lookup_other [] r s ne = cond_false (eqb s r.id) (Some r.off) None (ne_eqb s r.id ne)
+lookup_other [] r s ne = cond-false (eqb s r.id) (Some r.off) None (ne_eqb s r.id ne)
 lookup_other (x ∷ ls) r s ne = ap (cond (eqb s x.id) (Some x.off)) (lookup_other ls r s ne)
 
 lookup_new : (ls : List FieldLoc) (r : FieldLoc) (s : ℕ) → s ≡ r.id → lookup s ls ≡ None → lookup s (ls ++ r ∷ []) ≡ Some r.off
-lookup_new [] r s e f = cond_true (eqb s r.id) (Some r.off) None (eq-eqb s r.id e)
+lookup_new [] r s e f = cond-true (eqb s r.id) (Some r.off) None (eq-eqb s r.id e)
 lookup_new (x ∷ ls) r s e f = by (eqb s x.id) (lookup s ls) (lookup s (ls ++ r ∷ [])) f (lookup_new ls r s e)
   where
     by : (b : Bool) (m m' : Option ℕ) → cond b (Some x.off) m ≡ None → (m ≡ None → m' ≡ Some r.off) → cond b (Some x.off) m' ≡ Some r.off

@@ -1,4 +1,5 @@
 // Values of any kind in a space, one by one, in vectors and in strings.
+#![tactic(auto)]
 pub mod string;
 pub mod value;
 pub mod vector;

@@ -1,4 +1,5 @@
 // Says whether bytes hold what a reader expects, or the first fault and where it lies.
+#![tactic(auto)]
 pub mod table;
 pub mod verifiable;
 pub mod verifier;

@@ -1,14 +1,14 @@
 -- The search by halving, turn by turn.
 use Rattle.std.proofs.Common.{◌≡◌, ℕ, zero, suc, ◌+◌, ◌-◌, ◌/◌, ◌<◌, ◌≤◌, true, false, cond, eqb, leb, ◌⊎◌, is_some, Some, None, Option, Ordering, Less, Equal, Greater, sym, refl, ap, ◌∙◌, subst, inl, inr, ⊎_elim, arith}
 use Rattle.std.proofs.lemmas.Bool.Decides.{leb_tells, eqb_tells}
-use Rattle.wire.proofs.Conds.{cond_true, cond_false, leb_yes, leb_no, eqb_yes, eqb_no}
+use Rattle.wire.proofs.Conds.{cond-true, cond-false, leb_yes, leb_no, eqb_yes, eqb_no}
 use Rattle.std.specs.Option.{option_map}
 use Rattle.views.specs.Search.{Order, by_rank, met, halving, lookup, Keyed, Looked, Finds, Reached, Ascending}
 
 module _ {X : Type 0} (e : ℕ → Option X) (rank : X → Ordering) where
   past : (n left right : ℕ) → right < left → halving e rank n left right ≡ None
   past zero left right h = refl
-  past (suc n) left right h = cond_false (leb left right) _ None (leb_no left right h)
+  past (suc n) left right h = cond-false (leb left right) _ None (leb_no left right h)
 
   -- the number that bounds the turns does not matter, where it is enough
   enough : (m n left right : ℕ) → right < m + left → right < n + left → halving e rank m left right ≡ halving e rank n left right
@@ -20,7 +20,7 @@ module _ {X : Type 0} (e : ℕ → Option X) (rank : X → Ordering) where
       let mid = (left + right) / 2 in
       let up : halving e rank m (mid + 1) right ≡ halving e rank n (mid + 1) right = enough m n (mid + 1) right (omega (arith, t.1)) (omega (arith, t.1)) in
       let down : cond (eqb mid 0) None (halving e rank m left (mid - 1)) ≡ cond (eqb mid 0) None (halving e rank n left (mid - 1)) =
-      ⊎_elim (λ z. cond_true (eqb mid 0) None _ z.0 ∙ sym (cond_true (eqb mid 0) None _ z.0))
+      ⊎_elim (λ z. cond-true (eqb mid 0) None _ z.0 ∙ sym (cond-true (eqb mid 0) None _ z.0))
       (λ z. ap (cond (eqb mid 0) None) (enough m n left (mid - 1) (omega (arith, t.1, z.1)) (omega (arith, t.1, z.1)))) (eqb_tells mid 0) in
       (λ i. cond (leb left right) (met (e mid) rank (up i) (down i)) None))
       (λ t. past (suc m) left right t.1 ∙ sym (past (suc n) left right t.1))
@@ -31,7 +31,7 @@ module _ {X : Type 0} (e : ℕ → Option X) (rank : X → Ordering) where
       halving e rank (right + 1 - left) left right ≡ met (e mid) rank (halving e rank (right - left) (mid + 1) right) (cond (eqb mid 0) None (halving e rank (right - left) left (mid - 1)))
   turn left right h =
       let s : right + 1 - left ≡ suc (right - left) = omega arith in
-      ap (λ (n : ℕ). halving e rank n left right) s ∙ cond_true (leb left right) _ None (leb_yes left right h)
+      ap (λ (n : ℕ). halving e rank n left right) s ∙ cond-true (leb left right) _ None (leb_yes left right h)
 
   met_none : (o a b : Option X) → None ≡ o → met o rank a b ≡ None
   met_none o a b g = sym (ap (λ y. met y rank a b) g)
@@ -52,12 +52,12 @@ module _ {X : Type 0} (e : ℕ → Option X) (rank : X → Ordering) where
 
   at_zero : (left right : ℕ) (x : X) → left ≤ right → Some x ≡ e ((left + right) / 2) → Greater ≡ rank x → (left + right) / 2 ≡ 0
       → halving e rank (right + 1 - left) left right ≡ None
-  at_zero left right x h g r z = at_some left right x Greater h g r ∙ cond_true (eqb ((left + right) / 2) 0) None _ (eqb_yes ((left + right) / 2) 0 z)
+  at_zero left right x h g r z = at_some left right x Greater h g r ∙ cond-true (eqb ((left + right) / 2) 0) None _ (eqb_yes ((left + right) / 2) 0 z)
 
   at_greater : (left right : ℕ) (x : X) → left ≤ right → Some x ≡ e ((left + right) / 2) → Greater ≡ rank x → 0 < (left + right) / 2
       → halving e rank (right + 1 - left) left right ≡ halving e rank ((left + right) / 2 - 1 + 1 - left) left ((left + right) / 2 - 1)
   at_greater left right x h g r z =
-      at_some left right x Greater h g r ∙ cond_false (eqb ((left + right) / 2) 0) None _ (eqb_no ((left + right) / 2) 0 (λ q. omega arith))
+      at_some left right x Greater h g r ∙ cond-false (eqb ((left + right) / 2) 0) None _ (eqb_no ((left + right) / 2) 0 (λ q. omega arith))
       ∙ enough (right - left) ((left + right) / 2 - 1 + 1 - left) left ((left + right) / 2 - 1) (omega arith) (omega arith)
 
 module _ {V M K : Type 0} (own : V → Type 0) (means : V → M) (key : V → K) (order : Order K) (sought : K) (e : ℕ → Option M) (count : ℕ) where
@@ -65,12 +65,12 @@ module _ {V M K : Type 0} (own : V → Type 0) (means : V → M) (key : V → K)
   ranked keyed m = order.cmp (keyed m) sought
 
   pub none_empty : count ≡ 0 → Looked own means key order sought e count None
-  none_empty z keyed k = sym (cond_true (eqb count 0) None _ (eqb_yes count 0 z))
+  none_empty z keyed k = sym (cond-true (eqb count 0) None _ (eqb_yes count 0 z))
 
   pub reached_start : 0 < count → Reached own means key order sought e count 0 (count - 1)
   reached_start h keyed k =
       let s : count ≡ count - 1 + 1 - 0 = omega arith in
-      cond_false (eqb count 0) None _ (eqb_no count 0 (λ q. omega arith))
+      cond-false (eqb count 0) None _ (eqb_no count 0 (λ q. omega arith))
       ∙ ap (λ (n : ℕ). halving e (λ m. order.cmp (keyed m) sought) n 0 (count - 1)) s
 
   module _ (left right : ℕ) (so : Reached own means key order sought e count left right) where
@@ -120,7 +120,7 @@ module _ {X : Type 0} (e : ℕ → Option X) (rank : X → Ordering) (count : �
       let mid = (left + right) / 2 in
       let z = asc.reads mid (omega arith) in
       let at : (o : Ordering) → o ≡ rank z.0 → halving e rank (suc n) left right ≡ by_rank o z.0 (halving e rank n (mid + 1) right) (cond (eqb mid 0) None (halving e rank n left (mid - 1))) =
-      λ o s. cond_true (leb left right) _ None (leb_yes left right (omega arith)) ∙ met_some e rank (e mid) z.0 o _ _ (sym z.1) s in
+      λ o s. cond-true (leb left right) _ None (leb_yes left right (omega arith)) ∙ met_some e rank (e mid) z.0 o _ _ (sym z.1) s in
       by_order (rank z.0)
       (λ s. ⊎_elim
       (λ p. let t = meets n (mid + 1) right k x r (omega arith) p.1 h g q in (t.0, at Less (sym s) ∙ t.1))
@@ -132,13 +132,13 @@ module _ {X : Type 0} (e : ℕ → Option X) (rank : X → Ordering) (count : �
       (λ p.
       let u = p.1 in
       let t = meets n left (mid - 1) k x (omega arith) (omega arith) l (omega arith) g q in
-      (t.0, at Greater (sym s) ∙ cond_false (eqb mid 0) None _ (eqb_no mid 0 (λ w. omega arith)) ∙ t.1))
+      (t.0, at Greater (sym s) ∙ cond-false (eqb mid 0) None _ (eqb_no mid 0 (λ w. omega arith)) ∙ t.1))
       (leb_tells mid k))
 
   lookup_meets : (k : ℕ) (x : X) → k < count → e k ≡ Some x → rank x ≡ Equal → (y : X) × (lookup e rank count ≡ Some y)
   lookup_meets k x h g q =
       let t = meets count 0 (count - 1) k x (omega arith) (omega arith) (omega arith) (omega arith) g q in
-      (t.0, cond_false (eqb count 0) None _ (eqb_no count 0 (λ w. omega arith)) ∙ t.1)
+      (t.0, cond-false (eqb count 0) None _ (eqb_no count 0 (λ w. omega arith)) ∙ t.1)
 
 some_from_mapped : {V M : Type 0} (means : V → M) (r : Option V) (y : M) → option_map means r ≡ Some y → is_some r ≡ true
 some_from_mapped means (Some v) y e = refl

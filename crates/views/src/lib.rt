@@ -1,4 +1,5 @@
 // Reading views over any bytes: none reaches outside them.
+#![tactic(auto)]
 use std::marker::PhantomData;
 
 pub mod follow;

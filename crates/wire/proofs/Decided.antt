@@ -1,6 +1,6 @@
 -- What a call is told, by its tests.
 use Rattle.std.proofs.Common.{◌≡◌, ℕ, ◌<◌, ◌≤◌, Bool, true, false, cond, ltb, leb, List, [], ◌∷◌, ◌++◌, Ok, Err, Result, sym, refl, ap, ◌∙◌, arith}
-use Rattle.std.proofs.lemmas.Bool.{cond_true, cond_false, leb-true, leb-false, ltb-false}
+use Rattle.std.proofs.lemmas.Bool.{cond-true, cond-false, leb-true, leb-false, ltb-false}
 use Rattle.wire.specs.declared.refusal.Refusal.{Refusal}
 use Rattle.wire.specs.declared.refusal.Refusal.TheVariants.{TooLong, Store}
 use Rattle.wire.specs.Answers.{Why, Test, Where, above, decided, number, space_tests, too_much}
@@ -9,23 +9,23 @@ use Rattle.wire.proofs.Conds.{ltb_yes, ltb_no}
 module _ {A : Type 0} (x : A) where
   -- a test that fails refuses
   pub decided_stop : (t : Test) (ts : List Test) → t.fails ≡ true → decided (t ∷ ts) x ≡ Err t.why
-  decided_stop t ts e = cond_true t.fails _ _ e
+  decided_stop t ts e = cond-true t.fails _ _ e
 
   -- a test that does not fail is passed over
   pub decided_pass : (t : Test) (ts : List Test) → t.fails ≡ false → decided (t ∷ ts) x ≡ decided ts x
-  decided_pass t ts e = cond_false t.fails _ _ e
+  decided_pass t ts e = cond-false t.fails _ _ e
 
   pub told_long : (n limit : ℕ) → ltb 2147483647 n ≡ true → decided (space_tests n limit) x ≡ Err TooLong
-  told_long n limit e = cond_true (ltb 2147483647 n) _ _ e
+  told_long n limit e = cond-true (ltb 2147483647 n) _ _ e
 
   -- the used space after a call is one number, and what it asks of the store may be another
   pub asks_store : (n m limit : ℕ) → n ≤ 2147483647 → leb m limit ≡ false → decided (too_much n ∷ above m limit ∷ []) x ≡ Err (Store tt)
   asks_store n m limit low e =
-      cond_false (ltb 2147483647 n) _ _ (ltb_no 2147483647 n low) ∙ cond_true (ltb limit m) _ _ (ltb_yes limit m (leb-false m limit e))
+      cond-false (ltb 2147483647 n) _ _ (ltb_no 2147483647 n low) ∙ cond-true (ltb limit m) _ _ (ltb_yes limit m (leb-false m limit e))
 
   pub asks_done : (n m limit : ℕ) → n ≤ 2147483647 → leb m limit ≡ true → decided (too_much n ∷ above m limit ∷ []) x ≡ Ok x
   asks_done n m limit low e =
-      cond_false (ltb 2147483647 n) _ _ (ltb_no 2147483647 n low) ∙ cond_false (ltb limit m) _ _ (ltb_no limit m (leb-true m limit e))
+      cond-false (ltb 2147483647 n) _ _ (ltb_no 2147483647 n low) ∙ cond-false (ltb limit m) _ _ (ltb_no limit m (leb-true m limit e))
 
   pub told_store : (n limit : ℕ) → n ≤ 2147483647 → leb n limit ≡ false → decided (space_tests n limit) x ≡ Err (Store tt)
   told_store n limit = asks_store n n limit

@@ -6,7 +6,7 @@ use borrow.Rule.Slice.PartMut.{put_mid}
 use Rattle.std.specs.List.{slice_get}
 use Rattle.std.proofs.lemmas.List.{drop-drop, drop-take, drop_at, drop_all, take_at, drop-append-le, drop-replicate, replicate_more, take-append-le, take_all, take-take, get_or-drop, get_or-take}
 use Rattle.std.proofs.lemmas.Bool.{false≢true, cases_lt}
-use Rattle.std.proofs.lemmas.Option.{slice_get_get_or, slice_get_past}
+use Rattle.std.proofs.lemmas.Option.{slice_get-get_or, slice_get_past}
 use Rattle.wire.specs.Bytes.{zeros, last, front, raised, written, unspent, filled}
 
 pub length_last : (n : ℕ) (xs : List ℕ) → length (last n xs) ≡ min n (length xs)
@@ -52,10 +52,10 @@ last_last m n xs h k =
 -- the place k of xs is the place i of its last n bytes
 pub nth_last : (n : ℕ) (xs : List ℕ) (i k : ℕ) → k ≡ length xs - n + i → i < length (last n xs) → slice_get (last n xs) i ≡ Some (get_or xs k 0)
 nth_last n xs i k e l =
-    slice_get_get_or (last n xs) i 0 l ∙ ap (λ (x : ℕ). Some x) (get_or-drop (length xs - n) xs i 0 ∙ ap (λ (j : ℕ). get_or xs j 0) (sym e))
+    slice_get-get_or (last n xs) i 0 l ∙ ap (λ (x : ℕ). Some x) (get_or-drop (length xs - n) xs i 0 ∙ ap (λ (j : ℕ). get_or xs j 0) (sym e))
 
 pub nth_below : (n : ℕ) (xs : List ℕ) (i k : ℕ) → k ≡ length xs - n + i → i < length (last n xs) → slice_get xs k ≡ slice_get (last n xs) i
-nth_below n xs i k e l = slice_get_get_or xs k 0 (omega (arith, length_last n xs)) ∙ sym (nth_last n xs i k e l)
+nth_below n xs i k e l = slice_get-get_or xs k 0 (omega (arith, length_last n xs)) ∙ sym (nth_last n xs i k e l)
 
 pub nth_last_past : (n : ℕ) (xs : List ℕ) (i : ℕ) → length (last n xs) ≤ i → slice_get (last n xs) i ≡ None
 nth_last_past n xs i h = slice_get_past (last n xs) i h
@@ -290,7 +290,7 @@ take_short n u xs e =
 
 pub nth_take : (n : ℕ) (xs : List ℕ) (i : ℕ) → i < length (take n xs) → slice_get (take n xs) i ≡ Some (get_or xs i 0)
 nth_take n xs i l =
-    slice_get_get_or (take n xs) i 0 l ∙ ap (λ (x : ℕ). Some x) (get_or-take n xs i 0 (omega (arith, length-take n xs)))
+    slice_get-get_or (take n xs) i 0 l ∙ ap (λ (x : ℕ). Some x) (get_or-take n xs i 0 (omega (arith, length-take n xs)))
 
 pub written_append : (xs ys : List ℕ) (start : ℕ) (zs : List ℕ) → start + length zs ≤ length xs → written (xs ++ ys) start zs ≡ written xs start zs ++ ys
 written_append xs ys start zs h =
@@ -353,7 +353,7 @@ length_moved len next xs after h k moved =
 
 -- the byte that a store gives at a place
 pub nth_some : (xs : List ℕ) (i b : ℕ) → i < length xs → slice_get xs i ≡ Some b → b ≡ get_or xs i 0
-nth_some xs i b l e = let f = slice_get_get_or xs i 0 l in cc
+nth_some xs i b l e = let f = slice_get-get_or xs i 0 l in cc
 
 -- the place k of xs is the place i of its last n bytes
 pub get_or_last : (n : ℕ) (xs : List ℕ) (i k : ℕ) → k ≡ length xs - n + i → get_or xs k 0 ≡ get_or (last n xs) i 0

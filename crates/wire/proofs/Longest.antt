@@ -3,33 +3,33 @@ use Rattle.std.proofs.Common.{◌≡◌, ℕ, zero, suc, ◌+◌, ◌-◌, ◌*�
 use lib.Utf8.{scalar, scalars, next, encode, encodes, scalar_cases}
 use Rattle.std.proofs.lemmas.Bool.Decides.{leb_tells, eqb_tells, nat_tests}
 use Rattle.wire.specs.Utf8.{within, following, least, most, walk, longest_prefix, well_formed}
-use Rattle.wire.proofs.Conds.{cond_true, cond_false, leb_yes, ltb_yes, ltb_no}
+use Rattle.wire.proofs.Conds.{cond-true, cond-false, leb_yes, ltb_yes, ltb_no}
 use Rattle.wire.proofs.Walk.{free, within_yes}
 use Rattle.wire.proofs.WellFormed.{one, two, three, four, split, Second, lead, following_one, following_two, following_three, onward}
 
 least_is : (b y : ℕ) → Second b y → least b ≤ y
-least_is b y s = ⊎_elim (λ t. let a = s.at_E0 t.1 in subst (λ (x : ℕ). x ≤ y) (sym (cond_true (eqb b 0xE0) 0xA0 _ t.0)) a)
-    (λ t. ⊎_elim (λ v. let a = s.at_F0 v.1 in subst (λ (x : ℕ). x ≤ y) (sym (cond_false (eqb b 0xE0) 0xA0 _ t.0 ∙ cond_true (eqb b 0xF0) 0x90 0x80 v.0)) a)
-    (λ v. subst (λ (x : ℕ). x ≤ y) (sym (cond_false (eqb b 0xE0) 0xA0 _ t.0 ∙ cond_false (eqb b 0xF0) 0x90 0x80 v.0)) s.low) (eqb_tells b 0xF0)) (eqb_tells b 0xE0)
+least_is b y s = ⊎_elim (λ t. let a = s.at_E0 t.1 in subst (λ (x : ℕ). x ≤ y) (sym (cond-true (eqb b 0xE0) 0xA0 _ t.0)) a)
+    (λ t. ⊎_elim (λ v. let a = s.at_F0 v.1 in subst (λ (x : ℕ). x ≤ y) (sym (cond-false (eqb b 0xE0) 0xA0 _ t.0 ∙ cond-true (eqb b 0xF0) 0x90 0x80 v.0)) a)
+    (λ v. subst (λ (x : ℕ). x ≤ y) (sym (cond-false (eqb b 0xE0) 0xA0 _ t.0 ∙ cond-false (eqb b 0xF0) 0x90 0x80 v.0)) s.low) (eqb_tells b 0xF0)) (eqb_tells b 0xE0)
 
 most_is : (b y : ℕ) → Second b y → y ≤ most b
-most_is b y s = ⊎_elim (λ t. let a = s.at_ED t.1 in subst (λ (x : ℕ). y ≤ x) (sym (cond_true (eqb b 0xED) 0x9F _ t.0)) a)
-    (λ t. ⊎_elim (λ v. let a = s.at_F4 v.1 in subst (λ (x : ℕ). y ≤ x) (sym (cond_false (eqb b 0xED) 0x9F _ t.0 ∙ cond_true (eqb b 0xF4) 0x8F 0xBF v.0)) a)
-    (λ v. subst (λ (x : ℕ). y ≤ x) (sym (cond_false (eqb b 0xED) 0x9F _ t.0 ∙ cond_false (eqb b 0xF4) 0x8F 0xBF v.0)) s.high) (eqb_tells b 0xF4)) (eqb_tells b 0xED)
+most_is b y s = ⊎_elim (λ t. let a = s.at_ED t.1 in subst (λ (x : ℕ). y ≤ x) (sym (cond-true (eqb b 0xED) 0x9F _ t.0)) a)
+    (λ t. ⊎_elim (λ v. let a = s.at_F4 v.1 in subst (λ (x : ℕ). y ≤ x) (sym (cond-false (eqb b 0xED) 0x9F _ t.0 ∙ cond-true (eqb b 0xF4) 0x8F 0xBF v.0)) a)
+    (λ v. subst (λ (x : ℕ). y ≤ x) (sym (cond-false (eqb b 0xED) 0x9F _ t.0 ∙ cond-false (eqb b 0xF4) 0x8F 0xBF v.0)) s.high) (eqb_tells b 0xF4)) (eqb_tells b 0xED)
 
 second_step : (b y n at : ℕ) (bs : List ℕ) → Second b y → 0x80 ≤ b → following b ≡ suc n → walk 0 0 0 0 at (b ∷ y ∷ bs) ≡ walk n 0x80 0xBF at (at + 1 + 1) bs
 second_step b y n at bs s h f =
-    sym (lead b n at _ (y ∷ bs) h f refl) ∙ cond_true (within (least b) (most b) y) _ _ (within_yes (least b) (most b) y (least_is b y s) (most_is b y s))
+    sym (lead b n at _ (y ∷ bs) h f refl) ∙ cond-true (within (least b) (most b) y) _ _ (within_yes (least b) (most b) y (least_is b y s) (most_is b y s))
 
 more_step : (n z ended at : ℕ) (bs : List ℕ) → z < 64 → walk (suc n) 0x80 0xBF ended at ((128 + z) ∷ bs) ≡ walk n 0x80 0xBF ended (at + 1) bs
-more_step n z ended at bs h = cond_true (within 0x80 0xBF (128 + z)) _ _ (within_yes 0x80 0xBF (128 + z) (omega arith) (omega arith))
+more_step n z ended at bs h = cond-true (within 0x80 0xBF (128 + z)) _ _ (within_yes 0x80 0xBF (128 + z) (omega arith) (omega arith))
 
 -- a walk goes past a character
 passes : (c at : ℕ) (rest : List ℕ) → scalar c ≡ true → walk 0 0 0 0 at (encode c ++ rest) ≡ walk 0 0 0 0 (at + length (encode c)) rest
 passes c at rest s =
     let sc = scalar_cases c s in
     ⊎_elim
-    (λ h. ap (λ l. walk 0 0 0 0 at (l ++ rest)) (one c h) ∙ cond_true (ltb c 0x80) _ _ (ltb_yes c 0x80 h) ∙ free 0 0 at 0 0 0 (at + 1) rest
+    (λ h. ap (λ l. walk 0 0 0 0 at (l ++ rest)) (one c h) ∙ cond-true (ltb c 0x80) _ _ (ltb_yes c 0x80 h) ∙ free 0 0 at 0 0 0 (at + 1) rest
     ∙ ap (λ l. walk 0 0 0 0 (at + length l) rest) (sym (one c h)))
     (λ g. ⊎_elim
     (λ h.

@@ -2,7 +2,7 @@
 use Rattle.std.proofs.Common.{◌≡◌, ℕ, zero, suc, ◌+◌, ◌-◌, ◌<◌, ◌≤◌, Bool, true, false, cond, ◌&&◌, eqb, ltb, leb, ◌⊎◌, List, [], ◌∷◌, length, get_or, drop, sym, refl, ap, ◌∙◌, ⊎_elim, add-one, arith, drop-cons}
 use Rattle.std.proofs.lemmas.List.{drop_all}
 use Rattle.wire.specs.Utf8.{within, following, least, most, walk}
-use Rattle.wire.proofs.Conds.{cond_true, cond_false, leb_yes, leb_no, ltb_yes, ltb_no, eqb_yes, eqb_no}
+use Rattle.wire.proofs.Conds.{cond-true, cond-false, leb_yes, leb_no, ltb_yes, ltb_no, eqb_yes, eqb_no}
 
 -- between characters the range and the last end do not matter
 pub free : (lo hi ended lo' hi' ended' at : ℕ) (bs : List ℕ) → walk 0 lo hi ended at bs ≡ walk 0 lo' hi' ended' at bs
@@ -24,29 +24,29 @@ module _ (bs : List ℕ) (i : ℕ) (inside : i < length bs) where
   next = let e : suc i ≡ i + 1 = omega arith in drop-cons bs i 0 inside ∙ ap (λ (n : ℕ). get_or bs i 0 ∷ drop n bs) e
 
   pub step_ascii : (lo hi ended lo' hi' ended' : ℕ) → get_or bs i 0 < 0x80 → walk 0 lo hi ended i (drop i bs) ≡ walk 0 lo' hi' ended' (i + 1) (drop (i + 1) bs)
-  step_ascii lo hi ended lo' hi' ended' h = ap (walk 0 lo hi ended i) next ∙ cond_true (ltb (get_or bs i 0) 0x80) _ _ (ltb_yes (get_or bs i 0) 0x80 h) ∙ free 0 0 i lo' hi' ended' (i + 1) (drop (i + 1) bs)
+  step_ascii lo hi ended lo' hi' ended' h = ap (walk 0 lo hi ended i) next ∙ cond-true (ltb (get_or bs i 0) 0x80) _ _ (ltb_yes (get_or bs i 0) 0x80 h) ∙ free 0 0 i lo' hi' ended' (i + 1) (drop (i + 1) bs)
 
   pub step_lead : (lo hi ended n l m : ℕ) → 0x80 ≤ get_or bs i 0 → (following (get_or bs i 0) ≡ 0 → ⊥) → n ≡ following (get_or bs i 0) → l ≡ least (get_or bs i 0) → m ≡ most (get_or bs i 0)
       → walk 0 lo hi ended i (drop i bs) ≡ walk n l m i (i + 1) (drop (i + 1) bs)
   step_lead lo hi ended n l m h f p q r =
-      ap (walk 0 lo hi ended i) next ∙ cond_false (ltb (get_or bs i 0) 0x80) _ _ (ltb_no (get_or bs i 0) 0x80 h)
-      ∙ cond_false (eqb (following (get_or bs i 0)) 0) _ _ (eqb_no (following (get_or bs i 0)) 0 f)
+      ap (walk 0 lo hi ended i) next ∙ cond-false (ltb (get_or bs i 0) 0x80) _ _ (ltb_no (get_or bs i 0) 0x80 h)
+      ∙ cond-false (eqb (following (get_or bs i 0)) 0) _ _ (eqb_no (following (get_or bs i 0)) 0 f)
       ∙ (λ k. walk (sym p k) (sym q k) (sym r k) i (i + 1) (drop (i + 1) bs))
 
   pub stop_lead : (lo hi ended : ℕ) → 0x80 ≤ get_or bs i 0 → following (get_or bs i 0) ≡ 0 → walk 0 lo hi ended i (drop i bs) ≡ i
   stop_lead lo hi ended h f =
-      ap (walk 0 lo hi ended i) next ∙ cond_false (ltb (get_or bs i 0) 0x80) _ _ (ltb_no (get_or bs i 0) 0x80 h)
-      ∙ cond_true (eqb (following (get_or bs i 0)) 0) _ _ (eqb_yes (following (get_or bs i 0)) 0 f)
+      ap (walk 0 lo hi ended i) next ∙ cond-false (ltb (get_or bs i 0) 0x80) _ _ (ltb_no (get_or bs i 0) 0x80 h)
+      ∙ cond-true (eqb (following (get_or bs i 0)) 0) _ _ (eqb_yes (following (get_or bs i 0)) 0 f)
 
   pub step_more : (n lo hi ended : ℕ) → 0 < n → lo ≤ get_or bs i 0 → get_or bs i 0 ≤ hi → walk n lo hi ended i (drop i bs) ≡ walk (n - 1) 0x80 0xBF ended (i + 1) (drop (i + 1) bs)
   step_more n lo hi ended z l h =
       let s : n ≡ suc (n - 1) = omega arith in
-      (λ k. walk (s k) lo hi ended i (next k)) ∙ cond_true (within lo hi (get_or bs i 0)) _ _ (within_yes lo hi (get_or bs i 0) l h)
+      (λ k. walk (s k) lo hi ended i (next k)) ∙ cond-true (within lo hi (get_or bs i 0)) _ _ (within_yes lo hi (get_or bs i 0) l h)
 
   pub stop_more : (n lo hi ended : ℕ) → 0 < n → (get_or bs i 0 < lo) ⊎ (hi < get_or bs i 0) → walk n lo hi ended i (drop i bs) ≡ ended
   stop_more n lo hi ended z h =
       let s : n ≡ suc (n - 1) = omega arith in
-      (λ k. walk (s k) lo hi ended i (next k)) ∙ cond_false (within lo hi (get_or bs i 0)) _ _ (within_no lo hi (get_or bs i 0) h)
+      (λ k. walk (s k) lo hi ended i (next k)) ∙ cond-false (within lo hi (get_or bs i 0)) _ _ (within_no lo hi (get_or bs i 0) h)
 
 pub end_between : (bs : List ℕ) (i lo hi ended : ℕ) → length bs ≤ i → walk 0 lo hi ended i (drop i bs) ≡ i
 end_between bs i lo hi ended h = ap (walk 0 lo hi ended i) (drop_all i bs h)

@@ -6,29 +6,29 @@ use Rattle.std.proofs.lemmas.List.{take_all}
 use Rattle.std.proofs.lemmas.Str.{IsUtf8-append, IsUtf8-nil, IsUtf8-encode}
 use Rattle.std.proofs.lemmas.Bool.Decides.{leb_tells, eqb_tells, nat_tests}
 use Rattle.wire.specs.Utf8.{within, following, least, most, walk, longest_prefix, well_formed}
-use Rattle.wire.proofs.Conds.{cond_true, cond_false, leb_yes, ltb_yes, ltb_no, eqb_no}
+use Rattle.wire.proofs.Conds.{cond-true, cond-false, leb_yes, ltb_yes, ltb_no, eqb_no}
 use Rattle.wire.proofs.Walk.{free}
 
 -- ---- the bytes of a character, by its range
 
 pub two : (c : ℕ) → 128 ≤ c → c < 2048 → encode c ≡ (192 + c / 64) ∷ next c ∷ []
 unfolding encode
-two c l h = cond_false (ltb c 128) _ _ (ltb_no c 128 l) ∙ cond_true (ltb c 2048) _ _ (ltb_yes c 2048 h)
+two c l h = cond-false (ltb c 128) _ _ (ltb_no c 128 l) ∙ cond-true (ltb c 2048) _ _ (ltb_yes c 2048 h)
 
 pub three : (c : ℕ) → 2048 ≤ c → c < 65536 → encode c ≡ (224 + c / 4096) ∷ next (c / 64) ∷ next c ∷ []
 unfolding encode
-three c l h = cond_false (ltb c 128) _ _ (ltb_no c 128 (omega arith)) ∙ cond_false (ltb c 2048) _ _ (ltb_no c 2048 l) ∙ cond_true (ltb c 65536) _ _ (ltb_yes c 65536 h)
+three c l h = cond-false (ltb c 128) _ _ (ltb_no c 128 (omega arith)) ∙ cond-false (ltb c 2048) _ _ (ltb_no c 2048 l) ∙ cond-true (ltb c 65536) _ _ (ltb_yes c 65536 h)
 
 pub four : (c : ℕ) → 65536 ≤ c → encode c ≡ (240 + c / 262144) ∷ next (c / 4096) ∷ next (c / 64) ∷ next c ∷ []
 unfolding encode
-four c l = cond_false (ltb c 128) _ _ (ltb_no c 128 (omega arith)) ∙ cond_false (ltb c 2048) _ _ (ltb_no c 2048 (omega arith)) ∙ cond_false (ltb c 65536) _ _ (ltb_no c 65536 l)
+four c l = cond-false (ltb c 128) _ _ (ltb_no c 128 (omega arith)) ∙ cond-false (ltb c 2048) _ _ (ltb_no c 2048 (omega arith)) ∙ cond-false (ltb c 65536) _ _ (ltb_no c 65536 l)
 
 pub one : (c : ℕ) → c < 128 → encode c ≡ c ∷ []
 unfolding encode
-one c h = cond_true (ltb c 128) _ _ (ltb_yes c 128 h)
+one c h = cond-true (ltb c 128) _ _ (ltb_yes c 128 h)
 
 high_scalar : (c : ℕ) → 57344 ≤ c → c < 1114112 → scalar c ≡ true
-high_scalar c l u = cond_false (ltb c 55296) _ _ (ltb_no c 55296 (omega arith)) ∙ (λ k. leb_yes 57344 c l k && ltb_yes c 1114112 u k)
+high_scalar c l u = cond-false (ltb c 55296) _ _ (ltb_no c 55296 (omega arith)) ∙ (λ k. leb_yes 57344 c l k && ltb_yes c 1114112 u k)
 
 a_char : (l : List ℕ) (c : ℕ) → scalar c ≡ true → l ≡ encode c → IsUtf8 l
 a_char l c s e = subst IsUtf8 (sym e) (IsUtf8-encode c s)
@@ -124,8 +124,8 @@ ahead : (n lo hi ended at k : ℕ) (bs : List ℕ) → ended < k → walk (suc n
 ahead n lo hi ended at k [] h e = absurd (omega arith)
 ahead n lo hi ended at k (y ∷ rest) h e =
     by_bool (within lo hi y)
-    (λ t. record { first = y; rest = rest; is = refl; fits = t; goes = sym (cond_true (within lo hi y) _ _ t) ∙ e })
-    (λ t. let f = sym (cond_false (within lo hi y) (walk n 0x80 0xBF ended (at + 1) rest) ended t) ∙ e in absurd (omega arith))
+    (λ t. record { first = y; rest = rest; is = refl; fits = t; goes = sym (cond-true (within lo hi y) _ _ t) ∙ e })
+    (λ t. let f = sym (cond-false (within lo hi y) (walk n 0x80 0xBF ended (at + 1) rest) ended t) ∙ e in absurd (omega arith))
 
 -- how many bytes follow a first byte, row by row
 pub following_one : (b : ℕ) → 0xC2 ≤ b → b < 0xE0 → following b ≡ 1
@@ -162,7 +162,7 @@ row b =
 pub lead : (b n at k : ℕ) (bs : List ℕ) → 0x80 ≤ b → following b ≡ suc n → walk 0 0 0 0 at (b ∷ bs) ≡ k → walk (suc n) (least b) (most b) at (at + 1) bs ≡ k
 lead b n at k bs h f e =
     (λ i. walk (sym f i) (least b) (most b) at (at + 1) bs)
-    ∙ sym (cond_false (ltb b 0x80) _ _ (ltb_no b 0x80 h) ∙ cond_false (eqb (following b) 0) _ _ (eqb_no (following b) 0 (λ q. omega arith))) ∙ e
+    ∙ sym (cond-false (ltb b 0x80) _ _ (ltb_no b 0x80 h) ∙ cond-false (eqb (following b) 0) _ _ (eqb_no (following b) 0 (λ q. omega arith))) ∙ e
 
 -- a walk does not go back behind the last end
 pub onward : (n lo hi ended at : ℕ) (bs : List ℕ) → ended ≤ at → ended ≤ walk n lo hi ended at bs
@@ -171,15 +171,15 @@ onward (suc n) lo hi ended at [] h = omega arith
 onward zero lo hi ended at (b ∷ bs) h =
     by_bool (ltb b 0x80)
     (λ t. let r : at ≤ walk 0 0 0 at (at + 1) bs = onward 0 0 0 at (at + 1) bs (omega arith) in
-    subst (λ (x : ℕ). ended ≤ x) (sym (cond_true (ltb b 0x80) _ _ t)) (omega arith))
+    subst (λ (x : ℕ). ended ≤ x) (sym (cond-true (ltb b 0x80) _ _ t)) (omega arith))
     (λ t. by_bool (eqb (following b) 0)
-    (λ u. subst (λ (x : ℕ). ended ≤ x) (sym (cond_false (ltb b 0x80) _ _ t ∙ cond_true (eqb (following b) 0) _ _ u)) h)
+    (λ u. subst (λ (x : ℕ). ended ≤ x) (sym (cond-false (ltb b 0x80) _ _ t ∙ cond-true (eqb (following b) 0) _ _ u)) h)
     (λ u. let r : at ≤ walk (following b) (least b) (most b) at (at + 1) bs = onward (following b) (least b) (most b) at (at + 1) bs (omega arith) in
-    subst (λ (x : ℕ). ended ≤ x) (sym (cond_false (ltb b 0x80) _ _ t ∙ cond_false (eqb (following b) 0) _ _ u)) (omega arith)))
+    subst (λ (x : ℕ). ended ≤ x) (sym (cond-false (ltb b 0x80) _ _ t ∙ cond-false (eqb (following b) 0) _ _ u)) (omega arith)))
 onward (suc n) lo hi ended at (b ∷ bs) h =
     by_bool (within lo hi b)
-    (λ t. subst (λ (x : ℕ). ended ≤ x) (sym (cond_true (within lo hi b) _ _ t)) (onward n 0x80 0xBF ended (at + 1) bs (omega arith)))
-    (λ t. subst (λ (x : ℕ). ended ≤ x) (sym (cond_false (within lo hi b) _ _ t)) (omega arith))
+    (λ t. subst (λ (x : ℕ). ended ≤ x) (sym (cond-true (within lo hi b) _ _ t)) (onward n 0x80 0xBF ended (at + 1) bs (omega arith)))
+    (λ t. subst (λ (x : ℕ). ended ≤ x) (sym (cond-false (within lo hi b) _ _ t)) (omega arith))
 
 -- where a walk from at ends, and that what it passed is UTF-8
 record Front (at : ℕ) (bs : List ℕ) : Type 0 where
@@ -210,7 +210,7 @@ front (suc m) at (b ∷ bs) h =
     (λ further. elim (row b) [
       | ascii l ↦
           after at (at + 1) (b ∷ []) (b ∷ bs) bs refl refl (a_char _ b (low_scalar b (omega arith)) (sym (one b l))) (front m (at + 1) bs (omega arith))
-          (cond_true (ltb b 0x80) _ _ (ltb_yes b 0x80 l) ∙ free 0 0 at 0x80 0xBF at (at + 1) bs)
+          (cond-true (ltb b 0x80) _ _ (ltb_yes b 0x80 l) ∙ free 0 0 at 0x80 0xBF at (at + 1) bs)
       | of_1 l u ↦
           let s = ahead 0 (least b) (most b) at (at + 1) k bs further (lead b 0 at k bs (omega arith) (following_one b l u) refl) in
           let c = second b s.first s.fits in
@@ -235,7 +235,7 @@ front (suc m) at (b ∷ bs) h =
           (of_four b s.first t.first v.first l u c d.0 d.1 f.0 f.1)
           (front m (at + 1 + 1 + 1 + 1) v.rest (omega (arith, ap length s.is, ap length t.is, ap length v.is))) (sym v.goes)
       | none l u ↦
-          stays at (b ∷ bs) (cond_false (ltb b 0x80) _ _ (ltb_no b 0x80 l) ∙ cond_true (eqb (following b) 0) at (walk (following b) (least b) (most b) at (at + 1) bs) (ap (λ k'. eqb k' 0) (following_none b u)))
+          stays at (b ∷ bs) (cond-false (ltb b 0x80) _ _ (ltb_no b 0x80 l) ∙ cond-true (eqb (following b) 0) at (walk (following b) (least b) (most b) at (at + 1) bs) (ap (λ k'. eqb k' 0) (following_none b u)))
     ])
     (λ still. stays at (b ∷ bs) (omega arith))
     (split at k)

@@ -1,4 +1,6 @@
 // The format's own terms: bytes, words, padding, layouts, text, and the answers that a call can give.
+#![tactic(auto)]
+
 pub mod examples;
 pub mod padding;
 pub mod range;

@@ -1,6 +1,6 @@
 use Rattle.std.proofs.Common.{◌≡◌, ℕ, ◌+◌, ◌-◌, length, sym, ap, ◌∙◌, arith}
 use Rattle.std.proofs.lemmas.List.{get_or_past}
-use Rattle.std.proofs.lemmas.Option.{slice_get_get_or}
+use Rattle.std.proofs.lemmas.Option.{slice_get-get_or}
 use Rattle.wire.specs.Bytes.{last}
 use Rattle.wire.proofs.Lists.{length_last, nth_some, get_or_last}
 use Rattle.space.proofs.Space.byte.Goals as goal
@@ -24,6 +24,6 @@ returns-in-None g c =
     let s = c.args.self.now in
     let xs = g.S.Allocator.list s.allocator in
     let k = c.len-len.result - c.min-used.result + c.args.i in
-    let e = sym c.in-None.is ∙ c.at.ensures ∙ slice_get_get_or xs k 0 (omega arith) in
+    let e = sym c.in-None.is ∙ c.at.ensures ∙ slice_get-get_or xs k 0 (omega arith) in
     let z : ◌≡◌ {A = ℕ} 0 1 = cc in
     absurd (omega arith)

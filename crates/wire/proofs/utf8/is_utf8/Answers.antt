@@ -4,4 +4,4 @@ use Rattle.wire.proofs.utf8.is_utf8.Goals as goal
 
 pub returns : goal.returns
 unfolding well_formed
-returns c = ap (λ n. eqb n (length c.args.bytes.now)) c.valid-up-to.ensures.value
+returns c = ap (λ n. eqb n (length c.args.bytes.now)) c.valid_up_to.ensures.value

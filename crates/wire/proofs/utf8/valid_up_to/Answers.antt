@@ -6,10 +6,10 @@ use Rattle.wire.proofs.utf8.valid_up_to.Goals as goal
 pub returns : goal.returns
 returns c =
     let bs = c.args.bytes.now in
-    let e = c.walk-up-to.ensures.value in
+    let e = c.walk_up_to.ensures.value in
     record {
       value = e;
-      bound = c.walk-up-to.ensures.bound;
+      bound = c.walk_up_to.ensures.bound;
       front = subst (λ (n : ℕ). IsUtf8 (take n bs)) (sym e) (utf8_longest bs);
       longest = λ m h u. subst (λ (n : ℕ). m ≤ n) (sym e) (longest bs m h u);
     }

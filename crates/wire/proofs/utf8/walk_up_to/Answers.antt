@@ -20,7 +20,7 @@ pub returns-then-more-eq0 : goal.returns-then-more-eq0
 returns-then-more-eq0 c =
     let l = c.loop-at in
     let z : l.more ≡ 0 = omega arith in
-    let f : following (get_or c.args.bytes.now l.at 0) ≡ 0 = sym c.count-following-more.ensures ∙ c.if-more-eq0.true in
+    let f : following (get_or c.args.bytes.now l.at 0) ≡ 0 = sym c.count_following-more.ensures ∙ c.if-more-eq0.true in
     let s = stop_lead c.args.bytes.now l.at c.loop-at-test.true l.lo l.hi l.ended c.if-b-ge128.true f in
     let i = l.invariant.0 in
     record { value = cc; bound = omega arith }
@@ -37,8 +37,8 @@ loop-at-preserved c =
       | else-more-gt0+then-b-ge128+else-more-eq0 w ↦
           let z : l.more ≡ 0 = omega (arith, w.if-more-gt0.false) in
           let s = step_lead c.args.bytes.now l.at c.loop-at-test.true l.lo l.hi l.ended
-          w.count-following-more.result w.least-second-lo.result w.most-second-hi.result w.if-b-ge128.true (λ q. w.if-more-eq0.false (w.count-following-more.ensures ∙ q))
-          w.count-following-more.ensures w.least-second-lo.ensures w.most-second-hi.ensures in
+          w.count_following-more.result w.least_second-lo.result w.most_second-hi.result w.if-b-ge128.true (λ q. w.if-more-eq0.false (w.count_following-more.ensures ∙ q))
+          w.count_following-more.ensures w.least_second-lo.ensures w.most_second-hi.ensures in
           let a = w.more-is in let b = w.lo-is in let d = w.hi-is in let e = w.ended-is in
           (cc, omega (arith, w.ended-is))
       | else-more-gt0+else-b-ge128 w ↦
