@@ -1,5 +1,6 @@
 // Kinds of element: what a value pushes, and what is read of it.
 #![tactic(auto)]
+
 ghost use Rattle.std.specs.Prelude.{◌≡◌, ◌+◌, T, drop};
 ghost use Rattle.wire.specs.Bytes.{filled};
 ghost use Rattle.wire.specs.Kind.{Meaning, Law};

@@ -4,5 +4,5 @@ use Rattle.kinds.proofs.push.copy_part.Goals as goal
 
 pub returns : goal.returns
 returns c =
-    filled_part c.args.dst.now c.args.src.now c.copy-from-slice.new.self c.args.from c.min-start.result c.min-count.result
-    _ _ (omega arith) (omega arith) c.copy-from-slice.ensures.after (omega arith) (omega arith)
+    filled_part c.args.dst.now c.args.src.now c.copy_from_slice.new.self c.args.from c.min-start.result c.min-count.result
+    _ _ (omega arith) (omega arith) c.copy_from_slice.ensures.after (omega arith) (omega arith)

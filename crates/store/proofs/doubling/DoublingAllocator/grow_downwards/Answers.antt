@@ -27,12 +27,12 @@ returns c =
     let more : len < next = omega arith in
     let fits : next ≤ length xs = omega arith in
     let low : len ≤ next = omega arith in
-    let e = take_moved s.len len next xs c.move-up.new.bytes is low fits c.move-up.ensures in
+    let e = take_moved s.len len next xs c.move_up.new.bytes is low fits c.move_up.ensures in
     let by : 0 < next - len = omega arith in
     record {
       grown = record {
         list = raised_is _ _ _ e;
-        limit = length_moved len next xs _ low fits c.move-up.ensures;
+        limit = length_moved len next xs _ low fits c.move_up.ensures;
         more = λ _. longer (next - len) _ _ e by;
         full = λ no. absurd (true≢false no);
       };

@@ -16,6 +16,6 @@ returns c =
     let fits = leb-true _ _ (sym c.if-not-inside.ensures) in
     record {
       value = c.if-not-inside.ensures ∙ ap (leb _) is;
-      list = take_put_mid s.len s.bytes.now c.args.start c.args.bytes.now _ _ c.copy-from-slice.new.self c.copy-from-slice.ensures.after (omega arith) refl (omega arith);
-      limit = length_put_mid s.bytes.now _ _ c.copy-from-slice.new.self (ap length c.copy-from-slice.ensures.after ∙ omega arith) (omega (arith, length-take s.len s.bytes.now));
+      list = take_put_mid s.len s.bytes.now c.args.start c.args.bytes.now _ _ c.copy_from_slice.new.self c.copy_from_slice.ensures.after (omega arith) refl (omega arith);
+      limit = length_put_mid s.bytes.now _ _ c.copy_from_slice.new.self (ap length c.copy_from_slice.ensures.after ∙ omega arith) (omega (arith, length-take s.len s.bytes.now));
     }

@@ -25,7 +25,7 @@ pub returns-in-Ok : goal.returns-in-Ok
 returns-in-Ok g c =
     let s = c.args.self.now in
     let below = g.S.Allocator.list s.store in
-    let grown = g.S.Allocator.list c.grow-downwards.new.self in
+    let grown = g.S.Allocator.list c.grow_downwards.new.self in
     let more = c.in-Ok.ensures in
     let longer : length below < length grown = more.more refl in
     record {
@@ -44,7 +44,7 @@ pub returns-in-Err : goal.returns-in-Err
 returns-in-Err g c =
     let s = c.args.self.now in
     let below = g.S.Allocator.list s.store in
-    let after = g.S.Allocator.list c.grow-downwards.new.self in
+    let after = g.S.Allocator.list c.grow_downwards.new.self in
     let same = c.in-Err.ensures in
     let list : after ≡ below = (same.full refl).0 in
     let at : length below ≡ g.S.Allocator.limit s.store = (same.full refl).1 in

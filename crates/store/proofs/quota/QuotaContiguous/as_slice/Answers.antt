@@ -6,6 +6,6 @@ use Rattle.store.proofs.quota.QuotaContiguous.as_slice.Goals as goal
 pub returns : goal.returns
 returns g c =
     let s = c.args.self.now in
-    let below = c.as-slice-below.result.now in
+    let below = c.as_slice-below.result.now in
     let from = length below - c.min-len.result in
-    part_last s.quota below from (length below - from) (omega arith) (omega arith) ∙ ap (last s.quota) c.as-slice-below.ensures
+    part_last s.quota below from (length below - from) (omega arith) (omega arith) ∙ ap (last s.quota) c.as_slice-below.ensures

@@ -19,11 +19,15 @@ returns-then-self-eq-SIZE c =
       steps = refl;
     }
 
-pub invariant-of-self : goal.invariant-of-self
-invariant-of-self c =
+pub invariant_of-self : goal.invariant_of-self
+invariant_of-self c =
     let s = c.args.self.now in
     let size : length s.bytes ≡ 16384 = s.size in
-    (length_put_mid s.bytes _ _ c.fill.new.self (c.fill.ensures.len ∙ simp (length-take, length-drop) (omega arith)) (omega arith) ∙ size, (omega arith, (omega arith, tt)))
+    record {
+      size = length_put_mid s.bytes _ _ c.fill.new.self (c.fill.ensures.len ∙ simp (length-take, length-drop) (omega arith)) (omega arith) ∙ size;
+      fits = omega arith;
+      steps = omega arith;
+    }
 
 pub returns : goal.returns
 returns c =

@@ -12,12 +12,16 @@ returns-then-not-inside c =
       limit = refl;
     }
 
-pub invariant-of-self : goal.invariant-of-self
-invariant-of-self c =
+pub invariant_of-self : goal.invariant_of-self
+invariant_of-self c =
     let s = c.args.self.now in
     let size : length s.bytes ≡ 16384 = s.size in
     let fits = leb-true _ _ (sym c.if-not-inside.ensures) in
-    (length_put_mid s.bytes _ _ c.copy-from-slice.new.self (c.copy-from-slice.ensures.len ∙ simp (length-take, length-drop) (omega arith)) (omega arith) ∙ size, (s.fits, (s.steps, tt)))
+    record {
+      size = length_put_mid s.bytes _ _ c.copy_from_slice.new.self (c.copy_from_slice.ensures.len ∙ simp (length-take, length-drop) (omega arith)) (omega arith) ∙ size;
+      fits = s.fits;
+      steps = s.steps;
+    }
 
 pub returns : goal.returns
 returns c =
@@ -26,6 +30,6 @@ returns c =
     let long = length_last_le s.len s.bytes (omega arith) in
     record {
       value = c.if-not-inside.ensures ∙ ap (leb _) (sym long);
-      list = last_put_mid s.len s.bytes c.args.start c.args.bytes.now _ _ c.copy-from-slice.new.self c.copy-from-slice.ensures.after (omega arith) (omega arith) (omega arith);
+      list = last_put_mid s.len s.bytes c.args.start c.args.bytes.now _ _ c.copy_from_slice.new.self c.copy_from_slice.ensures.after (omega arith) (omega arith) (omega arith);
       limit = refl;
     }
