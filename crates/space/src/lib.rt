@@ -177,13 +177,13 @@ impl<S: Contiguous> Space<S> {
 
 // Grows a store until `want` bytes stand before its last `used`.
 fn grow_beyond<S: Allocator>(store: &mut S, used: usize, want: usize) -> Result<(), S::Error>
-    requires { used ≤ length (list store.old) }
-    ensures value { is_ok result ≡ nat_le (used + want) (limit store.old) }
-    ensures list { list store.new ≡ raised (length (list store.new)) (list store.old) }
-    ensures limit { limit store.new ≡ limit store.old }
-    ensures room { is_ok result ≡ true → used + want ≤ length (list store.new) }
-    ensures full { is_ok result ≡ false → length (list store.new) ≡ limit store.old }
-    ensures enough { used + want ≤ length (list store.old) → list store.new ≡ list store.old }
+    requires { used ≤ length (S.list store.old) }
+    ensures value { is_ok result ≡ nat_le (used + want) (S.limit store.old) }
+    ensures list { S.list store.new ≡ raised (length (S.list store.new)) (S.list store.old) }
+    ensures limit { S.limit store.new ≡ S.limit store.old }
+    ensures room { is_ok result ≡ true → used + want ≤ length (S.list store.new) }
+    ensures full { is_ok result ≡ false → length (S.list store.new) ≡ S.limit store.old }
+    ensures enough { used + want ≤ length (S.list store.old) → S.list store.new ≡ S.list store.old }
 {
     while store.len() - used < want {
         store.grow_downwards()?;

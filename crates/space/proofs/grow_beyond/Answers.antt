@@ -7,29 +7,29 @@ use Rattle.space.proofs.grow_beyond.Goals as goal
 pub loop-store-init : goal.loop-store-init
 loop-store-init g c = (omega arith, sym (raised_none _ _ (omega arith)), refl, λ _. refl)
 
-pub overflow-sub-len : goal.overflow-sub-len
-overflow-sub-len g c = omega arith
+pub overflow_sub-len : goal.overflow_sub-len
+overflow_sub-len g c = omega arith
 
 pub loop-store-smaller : goal.loop-store-smaller
 loop-store-smaller g c =
-    let more = c.in-ok-grow-downwards.ensures in
+    let more = c.in_ok-grow_downwards.ensures in
     let longer = more.more refl in
     let limit = more.limit in
-    let within = g.S.Allocator.within c.grow-downwards.new.self in
+    let within = g.S.Allocator.within c.grow_downwards.new.self in
     omega arith
 
 pub loop-store-preserved : goal.loop-store-preserved
 loop-store-preserved g c =
-    let more = c.in-ok-grow-downwards.ensures in
+    let more = c.in_ok-grow_downwards.ensures in
     let inv = c.loop-store.invariant in
-    let longer : length (g.S.Allocator.list c.loop-store.store) < length (g.S.Allocator.list c.grow-downwards.new.self) = more.more refl in
+    let longer : length (g.S.Allocator.list c.loop-store.store) < length (g.S.Allocator.list c.grow_downwards.new.self) = more.more refl in
     (omega arith, grown_grown _ _ _ inv.0 inv.1 (omega arith) more.list, more.limit ∙ inv.2, λ h. absurd (omega arith))
 
-pub returns-in-err-grow-downwards : goal.returns-in-err-grow-downwards
-returns-in-err-grow-downwards g c =
+pub returns-in_err-grow_downwards : goal.returns-in_err-grow_downwards
+returns-in_err-grow_downwards g c =
     let inv = c.loop-store.invariant in
-    let same = c.in-err-grow-downwards.ensures in
-    let p = err_from_is_err_and c.from-residual.result c.from-residual.ensures.1 in
+    let same = c.in_err-grow_downwards.ensures in
+    let p = err_from_is_err_and c.from_residual.result c.from_residual.ensures.1 in
     let list = (same.full refl).0 in
     let at : length (g.S.Allocator.list c.loop-store.store) ≡ g.S.Allocator.limit c.loop-store.store = (same.full refl).1 in
     rw p.1 record {

@@ -2,8 +2,8 @@ use Rattle.std.proofs.Common.{◌≡◌, ℕ, ◌+◌, leb, length, sym, refl, a
 use Rattle.wire.proofs.Lists.{length_last, length_front, last_grown, front_grown}
 use Rattle.space.proofs.Space.make_space.Goals as goal
 
-pub grow-beyond-requires : goal.grow-beyond-requires
-grow-beyond-requires g c =
+pub grow_beyond-requires : goal.grow_beyond-requires
+grow_beyond-requires g c =
     let s = c.args.self.now in
     omega (arith, length_last s.used (g.S.Allocator.list s.allocator))
 
@@ -11,10 +11,10 @@ pub returns : goal.returns
 returns g c =
     let s = c.args.self.now in
     let list = g.S.Allocator.list s.allocator in
-    let grown = g.S.Allocator.list c.grow-beyond.new.store in
+    let grown = g.S.Allocator.list c.grow_beyond.new.store in
     let used = c.used-used.result in
     let is = c.used-used.ensures in
-    let done = c.grow-beyond.ensures in
+    let done = c.grow_beyond.ensures in
     record {
       answer = done.value ∙ ap (λ (n : ℕ). leb (n + c.args.want) (g.S.Allocator.limit s.allocator)) is;
       settled = is;

@@ -17,7 +17,7 @@ pub loop-left-init : goal.loop-left-init
 loop-left-init g c =
     let list = g.S.Allocator.list in
     let limit = g.S.Allocator.limit in
-    let s : Space g.row.S.Denot g.S-as-Error.Denot = record { allocator = c.args.self.now.allocator; used = c.min-used.result } in
+    let s : Space _ _ = record { allocator = c.args.self.now.allocator; used = c.min-used.result } in
     let none : 0 ≡ c.args.count - c.args.count = omega arith in (
       omega arith,
       subst (λ (n : ℕ). Placed list limit s s true (zeros n)) none
@@ -33,8 +33,8 @@ loop-left-preserved g c =
     let room = placed_rest list limit _ c.loop-left.self (zeros done) c.loop-left.invariant.1 in
     let first = length_front c.min-used.result (list c.args.self.now.allocator) in (
       omega arith,
-      placed_zeros list limit _ c.loop-left.self c.put-front.new.self c.put-front.result _ done run _
-          (part_zeros 0 (run - 0) 64 run (omega arith) (omega arith)) (omega arith) (omega (arith, length-replicate {A = ℕ} done 0)) c.loop-left.invariant.1 c.put-front.ensures,
+      placed_zeros list limit _ c.loop-left.self c.put_front.new.self c.put_front.result _ done run _
+          (part_zeros 0 (run - 0) 64 run (omega arith) (omega arith)) (omega arith) (omega (arith, length-replicate {A = ℕ} done 0)) c.loop-left.invariant.1 c.put_front.ensures,
     )
 
 pub returns : goal.returns
@@ -43,6 +43,6 @@ returns g c =
     let limit = g.S.Allocator.limit in
     let s = c.args.self.now in
     let all : c.args.count - c.loop-left.left ≡ c.args.count = omega arith in
-    let mid : Space g.row.S.Denot g.S-as-Error.Denot = record { allocator = s.allocator; used = c.min-used.result } in
+    let mid : Space _ _ = record { allocator = s.allocator; used = c.min-used.result } in
     placed_settled list limit s mid c.loop-left.self true (zeros c.args.count) (omega (arith, length_last s.used (list s.allocator))) refl
     (subst (λ (n : ℕ). Placed list limit mid c.loop-left.self true (zeros n)) all c.loop-left.invariant.1)

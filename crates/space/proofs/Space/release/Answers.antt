@@ -12,9 +12,9 @@ returns g c =
     let limit = g.S.Allocator.limit in
     let s = c.args.self.now in
     let back = c.min-back.result in
-    let mid : Space g.row.S.Denot g.S-as-Error.Denot = record { allocator = s.allocator; used = c.used-used.result - back } in
-    let zeroed = c.put-zeros.new.self in
+    let mid : Space _ _ = record { allocator = s.allocator; used = c.used-used.result - back } in
+    let zeroed = c.put_zeros.new.self in
     let long = length_last s.used (list s.allocator) in
     let front = length_front mid.used (list s.allocator) in
-    let put = placed_done list limit mid zeroed c.put-zeros.result (zeros back) (simp length-replicate (omega arith)) c.put-zeros.ensures in
+    let put = placed_done list limit mid zeroed c.put_zeros.result (zeros back) (simp length-replicate (omega arith)) c.put_zeros.ensures in
     released list limit s mid zeroed _ c.args.count back (omega arith) refl (omega arith) put refl refl
