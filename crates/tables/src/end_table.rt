@@ -70,7 +70,7 @@ fn end_with_found<S: Allocator>(
     requires few { pad ≤ 3 }
     requires table { table ≡ pad + length (taken S.Allocator.list space.old) + 4 }
     ensures answer { told result ≡ decided (found_tests table (length (vtable_bytes table size (fields field_locs.now))) (S.Allocator.limit space.old.allocator)) table }
-    ensures used { taken S.Allocator.list space.new ≡ cond (is_ok result) (le 4 (signed vtable table) ++ zeros pad) [] ++ taken S.Allocator.list space.old }
+    ensures used { taken S.Allocator.list space.new ≡ (if is_ok result then le 4 (signed vtable table) ++ zeros pad else []) ++ taken S.Allocator.list space.old }
     ensures store { Asked result (Fronted S.Allocator.list S.Allocator.limit space.old space.new (table + length (vtable_bytes table size (fields field_locs.now))) (if is_ok result then length (vtable_bytes table size (fields field_locs.now)) else 0) (by_store result)) (space.new ≡ space.old) }
 {
     if table > MAX_SIZE {
@@ -101,7 +101,7 @@ fn end_with_new<S: Allocator>(
     requires table { table ≡ pad + length (taken S.Allocator.list space.old) + 4 }
     requires near { table ≤ 8589934592 }
     ensures answer { told result ≡ decided (new_tests table (length (vtable_bytes table size (fields field_locs.now))) (S.Allocator.limit space.old.allocator) (length (offsets vtables.old))) table }
-    ensures used { taken S.Allocator.list space.new ≡ cond (is_ok result) (vtable_bytes table size (fields field_locs.now) ++ (le 4 (signed (table + length (vtable_bytes table size (fields field_locs.now))) table) ++ zeros pad)) [] ++ taken S.Allocator.list space.old }
+    ensures used { taken S.Allocator.list space.new ≡ (if is_ok result then vtable_bytes table size (fields field_locs.now) ++ (le 4 (signed (table + length (vtable_bytes table size (fields field_locs.now))) table) ++ zeros pad) else []) ++ taken S.Allocator.list space.old }
     ensures vtables { offsets vtables.new ≡ (if is_ok result then offsets vtables.old ++ ((table + length (vtable_bytes table size (fields field_locs.now))) ∷ []) else offsets vtables.old) }
     ensures store { Asked result (Fronted S.Allocator.list S.Allocator.limit space.old space.new (table + length (vtable_bytes table size (fields field_locs.now))) 0 (by_store result)) (space.new ≡ space.old) }
 {
@@ -133,7 +133,7 @@ pub fn end_table<S: Allocator>(
     start: u32,
 ) -> Result<u32, Refusal<S::Error>>
     ensures answer { told result ≡ decided (table_tests start (fields field_locs.now) (taken S.Allocator.list space.old) (offsets vtables.old) (S.Allocator.limit space.old.allocator)) (table_offset (length (taken S.Allocator.list space.old))) }
-    ensures used { taken S.Allocator.list space.new ≡ cond (is_ok result) (table_bytes (length (taken S.Allocator.list space.old)) (table_vtable (length (taken S.Allocator.list space.old)) start (fields field_locs.now)) (equal_object (taken S.Allocator.list space.old) (table_vtable (length (taken S.Allocator.list space.old)) start (fields field_locs.now)) (offsets vtables.old))) [] ++ taken S.Allocator.list space.old }
+    ensures used { taken S.Allocator.list space.new ≡ (if is_ok result then table_bytes (length (taken S.Allocator.list space.old)) (table_vtable (length (taken S.Allocator.list space.old)) start (fields field_locs.now)) (equal_object (taken S.Allocator.list space.old) (table_vtable (length (taken S.Allocator.list space.old)) start (fields field_locs.now)) (offsets vtables.old)) else []) ++ taken S.Allocator.list space.old }
     ensures vtables { offsets vtables.new ≡ (if is_ok result then table_vtables (length (taken S.Allocator.list space.old)) (table_vtable (length (taken S.Allocator.list space.old)) start (fields field_locs.now)) (offsets vtables.old) (equal_object (taken S.Allocator.list space.old) (table_vtable (length (taken S.Allocator.list space.old)) start (fields field_locs.now)) (offsets vtables.old)) else offsets vtables.old) }
     ensures store { Asked result (Fronted S.Allocator.list S.Allocator.limit space.old space.new (table_offset (length (taken S.Allocator.list space.old)) + length (table_vtable (length (taken S.Allocator.list space.old)) start (fields field_locs.now))) (if is_ok result then table_returns (table_vtable (length (taken S.Allocator.list space.old)) start (fields field_locs.now)) (equal_object (taken S.Allocator.list space.old) (table_vtable (length (taken S.Allocator.list space.old)) start (fields field_locs.now)) (offsets vtables.old)) else 0) (by_store result)) (space.new ≡ space.old) }
 {

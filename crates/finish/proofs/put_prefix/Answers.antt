@@ -5,22 +5,22 @@ use Rattle.model.specs.Finish.{prefix_bytes}
 use Rattle.wire.specs.Words.{le}
 use Rattle.finish.proofs.put_prefix.Goals as goal
 
-pub returns-then-size-prefixed : goal.returns-then-size-prefixed
-returns-then-size-prefixed g c =
+pub returns-then-size_prefixed : goal.returns-then-size_prefixed
+returns-then-size_prefixed g c =
     let list = g.S.Allocator.list in
     let limit = g.S.Allocator.limit in
     let s = c.args.space.now in
-    let after = c.put-front.new.self in
+    let after = c.put_front.new.self in
     let used = length (taken list s) in
-    let room : 4 ≤ length (rest list s) = subst (λ (b : Bool). cond b 4 0 ≤ length (rest list s)) c.if-size-prefixed.true c.requires.room in
-    let word : c.to-le-bytes.result ≡ le 4 used = c.to-le-bytes.ensures ∙ ap (le 4) c.used-count.ensures in
-    let put = placed_done list limit s after c.put-front.result (le 4 used) (omega arith)
-    (subst (λ (l : List ℕ). Placed list limit s after c.put-front.result l) word c.put-front.ensures) in
-    subst (λ (b : Bool). Placed list limit s after true (prefix_bytes b used)) (sym c.if-size-prefixed.true) put
+    let room : 4 ≤ length (rest list s) = subst (λ (b : Bool). cond b 4 0 ≤ length (rest list s)) c.if-size_prefixed.true c.requires.room in
+    let word : c.to_le_bytes.result ≡ le 4 used = c.to_le_bytes.ensures ∙ ap (le 4) c.used-count.ensures in
+    let put = placed_done list limit s after c.put_front.result (le 4 used) (omega arith)
+    (subst (λ (l : List ℕ). Placed list limit s after c.put_front.result l) word c.put_front.ensures) in
+    subst (λ (b : Bool). Placed list limit s after true (prefix_bytes b used)) (sym c.if-size_prefixed.true) put
 
-pub returns-else-size-prefixed : goal.returns-else-size-prefixed
-returns-else-size-prefixed g c =
+pub returns-else-size_prefixed : goal.returns-else-size_prefixed
+returns-else-size_prefixed g c =
     let list = g.S.Allocator.list in
     let limit = g.S.Allocator.limit in
     let s = c.args.space.now in
-    subst (λ (b : Bool). Placed list limit s s true (prefix_bytes b (length (taken list s)))) (sym c.if-size-prefixed.false) (placed_none list limit s c.requires.settled)
+    subst (λ (b : Bool). Placed list limit s s true (prefix_bytes b (length (taken list s)))) (sym c.if-size_prefixed.false) (placed_none list limit s c.requires.settled)

@@ -17,8 +17,8 @@ returns g c =
     let s = c.args.space.now in
     let named = c.create_byte_string.new.space in
     let kerned = c.create_vector.new.space in
-    let name = c.in-ok-name.ensures in
-    let kerns = c.in-ok-kerns.ensures in
+    let name = c.in_ok-name.ensures in
+    let kerns = c.in_ok-kerns.ensures in
     record {
       used = λ _. kerns.space.used ∙ ap (with_kerns c.args.kerns.now) name.space.used;
       places = (

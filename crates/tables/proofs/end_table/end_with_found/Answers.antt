@@ -15,16 +15,16 @@ returns-in-Err g c =
     let list = g.S.Allocator.list in
     let limit = g.S.Allocator.limit in
     let s = c.args.space.now in
-    let f = c.args.field-locs.now in
+    let f = c.args.field_locs.now in
     let table = c.args.table in
     let vt = vtable_bytes table c.args.size (fields f) in
-    let word = c.signed-distance-word.result in
+    let word = c.signed_distance-word.result in
     let bs = vt ++ (le 4 word ++ zeros c.args.pad) in
     let made = c.in-Err.ensures in
     let size : length (taken list s) + length bs ≡ table + length vt = omega (arith, length_three vt word c.args.pad, c.requires.table) in
     let low : limit s.allocator < table + length vt = omega (arith, leb-false _ _ (sym made.answer)) in
     record {
-      answer = sym (found_store table (length vt) (limit s.allocator) c.if-table-gt-MAX-SIZE.false low);
+      answer = sym (found_store table (length vt) (limit s.allocator) c.if-table-gt-MAX_SIZE.false low);
       used = made.used;
       store = fronted_refused list limit s _ bs (table + length vt) size made;
     }
@@ -34,14 +34,14 @@ returns-in-Ok g c =
     let list = g.S.Allocator.list in
     let limit = g.S.Allocator.limit in
     let s = c.args.space.now in
-    let f = c.args.field-locs.now in
+    let f = c.args.field_locs.now in
     let table = c.args.table in
     let len = c.args.len in
     let vt = vtable_bytes table c.args.size (fields f) in
-    let word = c.signed-distance-word.result in
+    let word = c.signed_distance-word.result in
     let end = le 4 word ++ zeros c.args.pad in
     let made = c.in-Ok.ensures in
-    let mid = c.prepend-table.new.space in
+    let mid = c.prepend_table.new.space in
     let rel = c.release.ensures in
     let size : length (taken list s) + length (vt ++ end) ≡ table + length vt = omega (arith, length_three vt word c.args.pad, c.requires.table) in
     let high : table + length vt ≤ limit s.allocator = omega (arith, leb-true _ _ (sym made.answer)) in
@@ -49,7 +49,7 @@ returns-in-Ok g c =
     let both = length-append vt end in
     let whole : length (taken list mid) ≡ length (vt ++ end) + length (taken list s) = ap length made.used ∙ length-append (vt ++ end) (taken list s) in
     record {
-      answer = sym (found_done table (length vt) (limit s.allocator) c.if-table-gt-MAX-SIZE.false high);
-      used = rel.used ∙ ap (drop len) made.used ∙ drop_vtable vt end (taken list s) len long ∙ ap (λ (w : ℕ). (le 4 w ++ zeros c.args.pad) ++ taken list s) c.signed-distance-word.ensures;
+      answer = sym (found_done table (length vt) (limit s.allocator) c.if-table-gt-MAX_SIZE.false high);
+      used = rel.used ∙ ap (drop len) made.used ∙ drop_vtable vt end (taken list s) len long ∙ ap (λ (w : ℕ). (le 4 w ++ zeros c.args.pad) ++ taken list s) c.signed_distance-word.ensures;
       store = fronted_released list limit s mid _ (vt ++ end) _ (length vt) (min len (length (taken list mid))) (table + length vt) made rel (omega arith) (omega arith) (ap (λ (n : ℕ). drop n (taken list mid)) long) size;
     }

@@ -11,37 +11,37 @@ use Rattle.tables.proofs.Ending.{length_three}
 use Rattle.tables.proofs.VTables.{len_bounds, length_vtable}
 use Rattle.tables.proofs.end_table.prepend_table.Goals as goal
 
-pub overflow-add-pad-2 : goal.overflow-add-pad-2
-overflow-add-pad-2 g c =
-    let f = c.args.field-locs.now in
+pub overflow_add-pad-2 : goal.overflow_add-pad-2
+overflow_add-pad-2 g c =
+    let f = c.args.field_locs.now in
     let b = len_bounds (fields f) f.slots in
     omega (arith, c.requires.len, c.requires.few)
 
-pub returns-in-err-make-space : goal.returns-in-err-make-space
-returns-in-err-make-space g c =
-    let p = err_from_is_err_and c.from-residual.result c.from-residual.ensures.1 in
-    let f = c.args.field-locs.now in
+pub returns-in_err-make_space : goal.returns-in_err-make_space
+returns-in_err-make_space g c =
+    let p = err_from_is_err_and c.from_residual.result c.from_residual.ensures.1 in
+    let f = c.args.field_locs.now in
     let vt = vtable_bytes c.args.table c.args.size (fields f) in
     let long = length_three vt c.args.word c.args.pad in
     let size = length_vtable c.args.table c.args.size (fields f) f.slots in
-    rw p.1 (prepended_refused g.S.Allocator.list g.S.Allocator.limit _ _ (c.args.pad + 4 + c.args.len) (vt ++ (le 4 c.args.word ++ zeros c.args.pad)) c.in-err-make-space.ensures (omega (arith, c.requires.len)))
+    rw p.1 (prepended_refused g.S.Allocator.list g.S.Allocator.limit _ _ (c.args.pad + 4 + c.args.len) (vt ++ (le 4 c.args.word ++ zeros c.args.pad)) c.in_err-make_space.ensures (omega (arith, c.requires.len)))
 
-pub write-vtable-requires : goal.write-vtable-requires
-write-vtable-requires g c =
+pub write_vtable-requires : goal.write_vtable-requires
+write_vtable-requires g c =
     let list = g.S.Allocator.list in
     let limit = g.S.Allocator.limit in
     let pad = c.args.pad in
-    let mid = c.make-space.new.self in
-    let padded = c.put-zeros.new.self in
-    let made = c.in-ok-make-space.ensures in
+    let mid = c.make_space.new.self in
+    let padded = c.put_zeros.new.self in
+    let made = c.in_ok-make_space.ensures in
     let room = made.room refl in
     let z : length (zeros pad) ≡ pad = length-replicate pad 0 in
-    let first = placed_done list limit mid padded c.put-zeros.result (zeros pad) (omega arith) c.put-zeros.ensures in
+    let first = placed_done list limit mid padded c.put_zeros.result (zeros pad) (omega arith) c.put_zeros.ensures in
     let left = placed_rest list limit mid padded (zeros pad) first in
-    let word : c.to-le-bytes.result ≡ le 4 c.args.word = c.to-le-bytes.ensures in
-    let second = placed_done list limit padded c.put-front.new.self c.put-front.result (le 4 c.args.word) (omega arith)
-    (subst (λ (l : List ℕ). Placed list limit padded c.put-front.new.self c.put-front.result l) word c.put-front.ensures) in
-    let less = placed_rest list limit padded c.put-front.new.self (le 4 c.args.word) second in
+    let word : c.to_le_bytes.result ≡ le 4 c.args.word = c.to_le_bytes.ensures in
+    let second = placed_done list limit padded c.put_front.new.self c.put_front.result (le 4 c.args.word) (omega arith)
+    (subst (λ (l : List ℕ). Placed list limit padded c.put_front.new.self c.put_front.result l) word c.put_front.ensures) in
+    let less = placed_rest list limit padded c.put_front.new.self (le 4 c.args.word) second in
     record { len = c.requires.len; room = omega arith }
 
 pub returns : goal.returns
@@ -49,23 +49,23 @@ returns g c =
     let list = g.S.Allocator.list in
     let limit = g.S.Allocator.limit in
     let s = c.args.space.now in
-    let f = c.args.field-locs.now in
+    let f = c.args.field_locs.now in
     let vt = vtable_bytes c.args.table c.args.size (fields f) in
     let pad = c.args.pad in
-    let mid = c.make-space.new.self in
-    let padded = c.put-zeros.new.self in
-    let worded = c.put-front.new.self in
-    let after = c.write-vtable.new.space in
-    let made = c.in-ok-make-space.ensures in
+    let mid = c.make_space.new.self in
+    let padded = c.put_zeros.new.self in
+    let worded = c.put_front.new.self in
+    let after = c.write_vtable.new.space in
+    let made = c.in_ok-make_space.ensures in
     let room = made.room refl in
     let z : length (zeros pad) ≡ pad = length-replicate pad 0 in
-    let first = placed_done list limit mid padded c.put-zeros.result (zeros pad) (omega arith) c.put-zeros.ensures in
+    let first = placed_done list limit mid padded c.put_zeros.result (zeros pad) (omega arith) c.put_zeros.ensures in
     let left = placed_rest list limit mid padded (zeros pad) first in
-    let word : c.to-le-bytes.result ≡ le 4 c.args.word = c.to-le-bytes.ensures in
-    let second = placed_done list limit padded worded c.put-front.result (le 4 c.args.word) (omega arith)
-    (subst (λ (l : List ℕ). Placed list limit padded worded c.put-front.result l) word c.put-front.ensures) in
+    let word : c.to_le_bytes.result ≡ le 4 c.args.word = c.to_le_bytes.ensures in
+    let second = placed_done list limit padded worded c.put_front.result (le 4 c.args.word) (omega arith)
+    (subst (λ (l : List ℕ). Placed list limit padded worded c.put_front.result l) word c.put_front.ensures) in
     let both = placed_placed list limit mid padded worded (zeros pad) (le 4 c.args.word) first second in
-    let all = placed_placed list limit mid worded after (le 4 c.args.word ++ zeros pad) vt both c.write-vtable.ensures in
+    let all = placed_placed list limit mid worded after (le 4 c.args.word ++ zeros pad) vt both c.write_vtable.ensures in
     let long = length_three vt c.args.word pad in
     let size = length_vtable c.args.table c.args.size (fields f) f.slots in
     prepended_of list limit s mid after (pad + 4 + c.args.len) (vt ++ (le 4 c.args.word ++ zeros pad)) made all (omega (arith, c.requires.len))

@@ -10,7 +10,7 @@ use Rattle.tables.proofs.vtable_writer.begins_alike.Goals as goal
 pub returns-then-used-start : goal.returns-then-used-start
 returns-then-used-start g c =
     let us = taken g.S.Allocator.list c.args.space.now in
-    let f = c.args.field-locs.now in
+    let f = c.args.field_locs.now in
     let vt = vtable_bytes c.args.table c.args.size (fields f) in
     let long = length_vtable c.args.table c.args.size (fields f) f.slots in
     let start = c.used-used.result - c.min.result in
@@ -18,22 +18,22 @@ returns-then-used-start g c =
     bytes_short us vt (length vt) start refl (omega (arith, c.used-used.ensures, c.min.ensures, c.requires))
     ∙ ap (λ (v : List ℕ). bytes_eq (take (length vt) v) vt) (object_at us c.args.off start at)
 
-pub returns-then-byte-vtable-byte : goal.returns-then-byte-vtable-byte
-returns-then-byte-vtable-byte g c =
+pub returns-then-byte-vtable_byte : goal.returns-then-byte-vtable_byte
+returns-then-byte-vtable_byte g c =
     let us = taken g.S.Allocator.list c.args.space.now in
-    let f = c.args.field-locs.now in
+    let f = c.args.field_locs.now in
     let vt = vtable_bytes c.args.table c.args.size (fields f) in
     let long = length_vtable c.args.table c.args.size (fields f) f.slots in
     let start = c.used-used.result - c.min.result in
     let at : start ≡ length us - c.args.off = omega (arith, c.used-used.ensures, c.min.ensures) in
     bytes_apart us vt (length vt) start refl c.loop-i.i (omega (arith, c.requires))
-    (λ h. c.if-byte-vtable-byte.true (c.byte.ensures ∙ h ∙ sym c.vtable-byte.ensures))
+    (λ h. c.if-byte-vtable_byte.true (c.byte.ensures ∙ h ∙ sym c.vtable_byte.ensures))
     ∙ ap (λ (v : List ℕ). bytes_eq (take (length vt) v) vt) (object_at us c.args.off start at)
 
 pub returns : goal.returns
 returns g c =
     let us = taken g.S.Allocator.list c.args.space.now in
-    let f = c.args.field-locs.now in
+    let f = c.args.field_locs.now in
     let vt = vtable_bytes c.args.table c.args.size (fields f) in
     let long = length_vtable c.args.table c.args.size (fields f) f.slots in
     let start = c.used-used.result - c.min.result in

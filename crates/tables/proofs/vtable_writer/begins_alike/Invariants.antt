@@ -6,4 +6,4 @@ use Rattle.tables.proofs.vtable_writer.begins_alike.Given as goal
 
 abbrev pub invariant-loop-i : goal.invariant-loop-i
 invariant-loop-i g l =
-    (k : ℕ) → k < l.i → get_or (taken g.S.Allocator.list l.space) (l.start + k) 0 ≡ get_or (vtable_bytes l.table l.size (fields l.field-locs)) k 0
+    (k : ℕ) → k < l.i → get_or (taken g.S.Allocator.list l.space) (l.start + k) 0 ≡ get_or (vtable_bytes l.table l.size (fields l.field_locs)) k 0

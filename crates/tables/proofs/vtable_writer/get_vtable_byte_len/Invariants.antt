@@ -4,4 +4,4 @@ use Rattle.tables.specs.Fields.{fields}
 use Rattle.tables.proofs.vtable_writer.get_vtable_byte_len.Given as goal
 
 abbrev pub invariant-loop-loc : goal.invariant-loop-loc
-invariant-loop-loc l = l.len ≡ vtable_length (take l.loc-index (fields l.field-locs))
+invariant-loop-loc l = l.len ≡ vtable_length (take l.loc-index (fields l.field_locs))

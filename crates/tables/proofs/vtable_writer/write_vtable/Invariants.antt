@@ -8,7 +8,7 @@ use Rattle.tables.proofs.vtable_writer.write_vtable.Given as goal
 abbrev pub invariant-loop-loc : goal.invariant-loop-loc
 invariant-loop-loc g l =
     let list = g.S.Allocator.list in
-    let ls = fields l.field-locs in
+    let ls = fields l.field_locs in
     (taken list l.space ≡ partial l.table l.size ls l.loc-index ++ drop (vtable_length ls) (taken list l.initial.space))
     × (rest list l.space ≡ rest list l.initial.space)
     × (l.space.used ≡ l.initial.space.used)

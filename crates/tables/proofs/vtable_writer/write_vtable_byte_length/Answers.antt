@@ -6,5 +6,5 @@ use Rattle.tables.proofs.vtable_writer.write_vtable_byte_length.Goals as goal
 pub returns : goal.returns
 returns g c =
     let e = c.replace.ensures in
-    rewritten g.S.Allocator.list g.S.Allocator.limit c.args.space.now _ c.replace.result 0 c.to-le-bytes.result (le 2 c.args.len) c.to-le-bytes.ensures (omega (arith, c.requires))
+    rewritten g.S.Allocator.list g.S.Allocator.limit c.args.space.now _ c.replace.result 0 c.to_le_bytes.result (le 2 c.args.len) c.to_le_bytes.ensures (omega (arith, c.requires))
     e.value e.taken e.rest e.used e.limit

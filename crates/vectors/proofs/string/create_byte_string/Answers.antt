@@ -11,56 +11,56 @@ use Rattle.wire.proofs.Decided.{decided_ok, decided_err, decided_other, asked_re
 use Rattle.wire.proofs.Rows.{length_string}
 use Rattle.vectors.proofs.string.create_byte_string.Goals as goal
 
-pub returns-in-err-pad : goal.returns-in-err-pad
-returns-in-err-pad g c =
+pub returns-in_err-pad : goal.returns-in_err-pad
+returns-in_err-pad g c =
     let list = g.S.Allocator.list in
     let limit = g.S.Allocator.limit in
     let s = c.args.space.now in
     let text = c.args.text.now in
     let used = length (taken list s) in
-    let told = c.in-err-pad.ensures in
-    let after = c.room-for-string.new.space in
+    let told = c.in_err-pad.ensures in
+    let after = c.room_for_string.new.space in
     let size = length_string text used in
-    let p = err_from_is_err_and c.from-residual.result c.from-residual.ensures.1 in
+    let p = err_from_is_err_and c.from_residual.result c.from_residual.ensures.1 in
     rw (p.1, p.2) record {
       answer = decided_err _ (string_tests text used (limit s.allocator)) _ _ told.answer;
       space = asked_refused _ (Spaced list limit s after false (string_padding used (length text) + length text + 5)) (Prepended list limit s after false (string_object_bytes text used)) (after ≡ s)
           (λ h. prepended_refused list limit s after _ (string_object_bytes text used) h (omega arith)) told.space;
     }
 
-pub overflow-cast-text : goal.overflow-cast-text
-overflow-cast-text g c =
+pub overflow_cast-text : goal.overflow_cast-text
+overflow_cast-text g c =
     let used = length (taken g.S.Allocator.list c.args.space.now) in
-    omega (arith, space_low (string_space used (length c.args.text.now)) (g.S.Allocator.limit c.args.space.now.allocator) _ _ c.in-ok-pad.ensures.answer)
+    omega (arith, space_low (string_space used (length c.args.text.now)) (g.S.Allocator.limit c.args.space.now.allocator) _ _ c.in_ok-pad.ensures.answer)
 
-pub overflow-cast-result : goal.overflow-cast-result
-overflow-cast-result g c =
+pub overflow_cast-result : goal.overflow_cast-result
+overflow_cast-result g c =
     let list = g.S.Allocator.list in
     let limit = g.S.Allocator.limit in
     let s = c.args.space.now in
     let text = c.args.text.now in
     let used = length (taken list s) in
-    let mid = c.room-for-string.new.space in
-    let padded = c.put-zeros.new.self in
-    let texted = c.put-front.new.self in
-    let after = c.put-front-2.new.self in
-    let room = c.in-ok-pad.ensures in
-    let is : c.in-ok-pad.pad ≡ string_padding used (length text) = decided_ok (string_padding used (length text)) _ (string_tests text used (limit s.allocator)) room.answer in
+    let mid = c.room_for_string.new.space in
+    let padded = c.put_zeros.new.self in
+    let texted = c.put_front.new.self in
+    let after = c.put_front-2.new.self in
+    let room = c.in_ok-pad.ensures in
+    let is : c.in_ok-pad.pad ≡ string_padding used (length text) = decided_ok (string_padding used (length text)) _ (string_tests text used (limit s.allocator)) room.answer in
     let spaced = room.space in
     let wide = spaced.room refl in
     let pad = string_padding used (length text) in
     let z = length-replicate {A = ℕ} pad 0 in
-    let end : zeros (c.in-ok-pad.pad + 1) ≡ 0 ∷ zeros pad = ap (λ (k : ℕ). zeros (k + 1)) is ∙ ap zeros (add-one pad) in
-    let first = placed_done list limit mid padded c.put-zeros.result (0 ∷ zeros pad) (omega arith)
-    (subst (λ (l : List ℕ). Placed list limit mid padded c.put-zeros.result l) end c.put-zeros.ensures) in
+    let end : zeros (c.in_ok-pad.pad + 1) ≡ 0 ∷ zeros pad = ap (λ (k : ℕ). zeros (k + 1)) is ∙ ap zeros (add-one pad) in
+    let first = placed_done list limit mid padded c.put_zeros.result (0 ∷ zeros pad) (omega arith)
+    (subst (λ (l : List ℕ). Placed list limit mid padded c.put_zeros.result l) end c.put_zeros.ensures) in
     let left = placed_rest list limit mid padded (0 ∷ zeros pad) first in
-    let second = placed_done list limit padded texted c.put-front.result text (omega arith) c.put-front.ensures in
+    let second = placed_done list limit padded texted c.put_front.result text (omega arith) c.put_front.ensures in
     let both = placed_placed list limit mid padded texted (0 ∷ zeros pad) text first second in
     let long = length-append text (0 ∷ zeros pad) in
     let rest = placed_rest list limit mid texted (text ++ (0 ∷ zeros pad)) both in
-    let word : c.to-le-bytes.result ≡ le 4 (length text) = c.to-le-bytes.ensures in
-    let third = placed_done list limit texted after c.put-front-2.result (le 4 (length text)) (omega arith)
-    (subst (λ (l : List ℕ). Placed list limit texted after c.put-front-2.result l) word c.put-front-2.ensures) in
+    let word : c.to_le_bytes.result ≡ le 4 (length text) = c.to_le_bytes.ensures in
+    let third = placed_done list limit texted after c.put_front-2.result (le 4 (length text)) (omega arith)
+    (subst (λ (l : List ℕ). Placed list limit texted after c.put_front-2.result l) word c.put_front-2.ensures) in
     let done = prepended_of list limit s mid after _ (string_object_bytes text used) spaced
     (placed_placed list limit mid texted after (text ++ (0 ∷ zeros pad)) (le 4 (length text)) both third) (omega arith) in
     let offset = prepended_used list limit s after _ _ (length_string text used) done in
@@ -73,27 +73,27 @@ returns g c =
     let s = c.args.space.now in
     let text = c.args.text.now in
     let used = length (taken list s) in
-    let mid = c.room-for-string.new.space in
-    let padded = c.put-zeros.new.self in
-    let texted = c.put-front.new.self in
-    let after = c.put-front-2.new.self in
-    let room = c.in-ok-pad.ensures in
-    let is : c.in-ok-pad.pad ≡ string_padding used (length text) = decided_ok (string_padding used (length text)) _ (string_tests text used (limit s.allocator)) room.answer in
+    let mid = c.room_for_string.new.space in
+    let padded = c.put_zeros.new.self in
+    let texted = c.put_front.new.self in
+    let after = c.put_front-2.new.self in
+    let room = c.in_ok-pad.ensures in
+    let is : c.in_ok-pad.pad ≡ string_padding used (length text) = decided_ok (string_padding used (length text)) _ (string_tests text used (limit s.allocator)) room.answer in
     let spaced = room.space in
     let wide = spaced.room refl in
     let pad = string_padding used (length text) in
     let z = length-replicate {A = ℕ} pad 0 in
-    let end : zeros (c.in-ok-pad.pad + 1) ≡ 0 ∷ zeros pad = ap (λ (k : ℕ). zeros (k + 1)) is ∙ ap zeros (add-one pad) in
-    let first = placed_done list limit mid padded c.put-zeros.result (0 ∷ zeros pad) (omega arith)
-    (subst (λ (l : List ℕ). Placed list limit mid padded c.put-zeros.result l) end c.put-zeros.ensures) in
+    let end : zeros (c.in_ok-pad.pad + 1) ≡ 0 ∷ zeros pad = ap (λ (k : ℕ). zeros (k + 1)) is ∙ ap zeros (add-one pad) in
+    let first = placed_done list limit mid padded c.put_zeros.result (0 ∷ zeros pad) (omega arith)
+    (subst (λ (l : List ℕ). Placed list limit mid padded c.put_zeros.result l) end c.put_zeros.ensures) in
     let left = placed_rest list limit mid padded (0 ∷ zeros pad) first in
-    let second = placed_done list limit padded texted c.put-front.result text (omega arith) c.put-front.ensures in
+    let second = placed_done list limit padded texted c.put_front.result text (omega arith) c.put_front.ensures in
     let both = placed_placed list limit mid padded texted (0 ∷ zeros pad) text first second in
     let long = length-append text (0 ∷ zeros pad) in
     let rest = placed_rest list limit mid texted (text ++ (0 ∷ zeros pad)) both in
-    let word : c.to-le-bytes.result ≡ le 4 (length text) = c.to-le-bytes.ensures in
-    let third = placed_done list limit texted after c.put-front-2.result (le 4 (length text)) (omega arith)
-    (subst (λ (l : List ℕ). Placed list limit texted after c.put-front-2.result l) word c.put-front-2.ensures) in
+    let word : c.to_le_bytes.result ≡ le 4 (length text) = c.to_le_bytes.ensures in
+    let third = placed_done list limit texted after c.put_front-2.result (le 4 (length text)) (omega arith)
+    (subst (λ (l : List ℕ). Placed list limit texted after c.put_front-2.result l) word c.put_front-2.ensures) in
     let done = prepended_of list limit s mid after _ (string_object_bytes text used) spaced
     (placed_placed list limit mid texted after (text ++ (0 ∷ zeros pad)) (le 4 (length text)) both third) (omega arith) in
     let offset = prepended_used list limit s after _ _ (length_string text used) done in

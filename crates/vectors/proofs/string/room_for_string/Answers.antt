@@ -30,7 +30,7 @@ returns-in-Err g c =
     let pad : c.in-Some.pad ≡ string_padding used (length text) = found.1 ∙ ap (λ (u : ℕ). string_padding u (length text)) c.used-used.ensures in
     let low : n ≤ 2147483647 = omega (arith, found.0, same) in
     let want = ap (λ (k : ℕ). k + length text + 5) pad in
-    let done = subst (λ (k : ℕ). Spaced list limit s c.make-space.new.self false k) want c.in-Err.ensures in
+    let done = subst (λ (k : ℕ). Spaced list limit s c.make_space.new.self false k) want c.in-Err.ensures in
     let allowed : leb n (limit s.allocator) ≡ false = sym (done.answer ∙ ap (λ (k : ℕ). leb k (limit s.allocator)) (omega arith)) in
     record { answer = sym (told_store (string_padding used (length text)) n (limit s.allocator) low allowed); space = done }
 
@@ -47,6 +47,6 @@ returns-in-Ok g c =
     let pad : c.in-Some.pad ≡ string_padding used (length text) = found.1 ∙ ap (λ (u : ℕ). string_padding u (length text)) c.used-used.ensures in
     let low : n ≤ 2147483647 = omega (arith, found.0, same) in
     let want = ap (λ (k : ℕ). k + length text + 5) pad in
-    let done = subst (λ (k : ℕ). Spaced list limit s c.make-space.new.self true k) want c.in-Ok.ensures in
+    let done = subst (λ (k : ℕ). Spaced list limit s c.make_space.new.self true k) want c.in-Ok.ensures in
     let allowed : leb n (limit s.allocator) ≡ true = sym (done.answer ∙ ap (λ (k : ℕ). leb k (limit s.allocator)) (omega arith)) in
     record { answer = ap Ok pad ∙ sym (told_done (string_padding used (length text)) n (limit s.allocator) low allowed); space = done }

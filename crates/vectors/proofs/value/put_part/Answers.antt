@@ -4,8 +4,8 @@ use Rattle.wire.specs.Bytes.{zeros}
 use Rattle.vectors.proofs.Parts.{part_pushed}
 use Rattle.vectors.proofs.value.put_part.Goals as goal
 
-pub slice-bounds-put-front-end : goal.slice-bounds-put-front-end
-slice-bounds-put-front-end g c =
+pub slice_bounds-put_front-end : goal.slice_bounds-put_front-end
+slice_bounds-put_front-end g c =
     let long = length-append c.push.new.dst (drop (c.args.count - 0) (zeros 8)) in
     let kept = c.push.auto.dst in
     let short = length-take (c.args.count - 0) (zeros 8) in
@@ -18,6 +18,6 @@ returns g c =
     let long = g.T.Kind.lawful.long c.args.x.now c.args.used in
     let is = part_pushed (zeros 8) (drop (c.args.count - 0) (zeros 8)) bytes c.push.new.dst c.args.count (c.args.count - 0) c.args.from (omega arith) (omega arith) c.push.ensures.bytes (omega arith) in
     record {
-      placed = subst (λ (l : List ℕ). Placed g.S.Allocator.list g.S.Allocator.limit c.args.space.now c.put-front.new.self c.put-front.result l) is c.put-front.ensures;
+      placed = subst (λ (l : List ℕ). Placed g.S.Allocator.list g.S.Allocator.limit c.args.space.now c.put_front.new.self c.put_front.result l) is c.put_front.ensures;
       fits = c.push.ensures.fits;
     }

@@ -39,14 +39,14 @@ loop-left-preserved g c =
     let part = take count (drop from bytes) in
     let inv = c.loop-left.invariant in
     let size : c.loop-left.left ≤ length bytes = omega arith in
-    let placed = c.put-part.ensures.placed in
+    let placed = c.put_part.ensures.placed in
     let is = part_before bytes from count c.loop-left.left (omega arith) in
     let room : length (drop from bytes) ≤ length (rest list s) = simp length-drop (omega arith) in
     let old = laid_rest list limit s c.loop-left.space _ inv.1 in
     let fits : length part ≤ length (rest list c.loop-left.space) = omega (arith, length-drop from bytes, length-drop c.loop-left.left bytes, length-take count (drop from bytes)) in (
       omega arith,
-      laid_placed list limit s c.loop-left.space c.put-part.new.space c.put-part.result _ part _ is room inv.1 placed,
-      λ _. ((placed_done list limit c.loop-left.space c.put-part.new.space c.put-part.result part fits placed).settled refl, c.put-part.ensures.fits),
+      laid_placed list limit s c.loop-left.space c.put_part.new.space c.put_part.result _ part _ is room inv.1 placed,
+      λ _. ((placed_done list limit c.loop-left.space c.put_part.new.space c.put_part.result part fits placed).settled refl, c.put_part.ensures.fits),
     )
 
 pub returns : goal.returns

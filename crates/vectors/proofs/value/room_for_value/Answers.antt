@@ -19,7 +19,7 @@ returns-in-None g c =
     let used = length (taken list s) in
     let n = pushed_offset x used in
     let stand : stands x.offset used ≡ true =
-    ap (λ (o : Option ℕ). stands o used) (sym c.offset.ensures) ∙ ap (stands c.offset.result) (sym c.used-used.ensures) ∙ sym c.if-not-offset-stands.ensures in
+    ap (λ (o : Option ℕ). stands o used) (sym c.offset.ensures) ∙ ap (stands c.offset.result) (sym c.used-used.ensures) ∙ sym c.if-not-offset_stands.ensures in
     let passed = decided_pass (push_padding x used) (not (stands x.offset used) because Offset) (space_tests n (limit s.allocator)) (ap not stand) in
     let same = same_value_space c.used-used.result used c.size-size.result m.size c.alignment.result m.alignment c.used-used.ensures c.size-size.ensures c.alignment.ensures in
     let long = too_long _ _ c.in-None.ensures in
@@ -35,14 +35,14 @@ returns-in-Err g c =
     let used = length (taken list s) in
     let n = pushed_offset x used in
     let stand : stands x.offset used ≡ true =
-    ap (λ (o : Option ℕ). stands o used) (sym c.offset.ensures) ∙ ap (stands c.offset.result) (sym c.used-used.ensures) ∙ sym c.if-not-offset-stands.ensures in
+    ap (λ (o : Option ℕ). stands o used) (sym c.offset.ensures) ∙ ap (stands c.offset.result) (sym c.used-used.ensures) ∙ sym c.if-not-offset_stands.ensures in
     let passed = decided_pass (push_padding x used) (not (stands x.offset used) because Offset) (space_tests n (limit s.allocator)) (ap not stand) in
     let same = same_value_space c.used-used.result used c.size-size.result m.size c.alignment.result m.alignment c.used-used.ensures c.size-size.ensures c.alignment.ensures in
     let found = found_padding _ _ _ c.in-Some.ensures in
     let pad : c.in-Some.pad ≡ push_padding x used = found.1 ∙ same_value_padding c.used-used.result used c.size-size.result m.size c.alignment.result m.alignment c.used-used.ensures c.size-size.ensures c.alignment.ensures in
     let low : n ≤ 2147483647 = omega (arith, found.0, same) in
     let want : c.in-Some.pad + c.size-size.result ≡ push_padding x used + m.size = omega (arith, pad, c.size-size.ensures) in
-    let done = subst (λ (k : ℕ). Spaced list limit s c.make-space.new.self false k) want c.in-Err.ensures in
+    let done = subst (λ (k : ℕ). Spaced list limit s c.make_space.new.self false k) want c.in-Err.ensures in
     let allowed : leb n (limit s.allocator) ≡ false = sym (done.answer ∙ ap (λ (k : ℕ). leb k (limit s.allocator)) (omega arith)) in
     record { answer = sym (passed ∙ told_store (push_padding x used) n (limit s.allocator) low allowed); space = done }
 
@@ -56,13 +56,13 @@ returns-in-Ok g c =
     let used = length (taken list s) in
     let n = pushed_offset x used in
     let stand : stands x.offset used ≡ true =
-    ap (λ (o : Option ℕ). stands o used) (sym c.offset.ensures) ∙ ap (stands c.offset.result) (sym c.used-used.ensures) ∙ sym c.if-not-offset-stands.ensures in
+    ap (λ (o : Option ℕ). stands o used) (sym c.offset.ensures) ∙ ap (stands c.offset.result) (sym c.used-used.ensures) ∙ sym c.if-not-offset_stands.ensures in
     let passed = decided_pass (push_padding x used) (not (stands x.offset used) because Offset) (space_tests n (limit s.allocator)) (ap not stand) in
     let same = same_value_space c.used-used.result used c.size-size.result m.size c.alignment.result m.alignment c.used-used.ensures c.size-size.ensures c.alignment.ensures in
     let found = found_padding _ _ _ c.in-Some.ensures in
     let pad : c.in-Some.pad ≡ push_padding x used = found.1 ∙ same_value_padding c.used-used.result used c.size-size.result m.size c.alignment.result m.alignment c.used-used.ensures c.size-size.ensures c.alignment.ensures in
     let low : n ≤ 2147483647 = omega (arith, found.0, same) in
     let want : c.in-Some.pad + c.size-size.result ≡ push_padding x used + m.size = omega (arith, pad, c.size-size.ensures) in
-    let done = subst (λ (k : ℕ). Spaced list limit s c.make-space.new.self true k) want c.in-Ok.ensures in
+    let done = subst (λ (k : ℕ). Spaced list limit s c.make_space.new.self true k) want c.in-Ok.ensures in
     let allowed : leb n (limit s.allocator) ≡ true = sym (done.answer ∙ ap (λ (k : ℕ). leb k (limit s.allocator)) (omega arith)) in
     record { answer = ap Ok pad ∙ sym (passed ∙ told_done (push_padding x used) n (limit s.allocator) low allowed); space = done }

@@ -12,16 +12,16 @@ loop-item-preserved g c =
     let used = c.args.used in
     let rest = all_stand (map (pushed m g.T.Kind.lawful) (drop (c.loop-item.item-index + 1) c.args.items.now)) used in
     let next = stand_rest m g.T.Kind.lawful c.args.items.now c.loop-item.item-index _ c.item-item.result refl c.loop-item-test.true c.item-item.is used in
-    let test : true ≡ stands (m.offset c.item-item.result) used = c.if-not-offset-stands.ensures ∙ ap (λ (o : Option ℕ). stands o used) c.offset.ensures in
+    let test : true ≡ stands (m.offset c.item-item.result) used = c.if-not-offset_stands.ensures ∙ ap (λ (o : Option ℕ). stands o used) c.offset.ensures in
     ap (λ (b : Bool). b && rest) test ∙ sym next ∙ c.loop-item.invariant
 
-pub returns-then-not-offset-stands : goal.returns-then-not-offset-stands
-returns-then-not-offset-stands g c =
+pub returns-then-not-offset_stands : goal.returns-then-not-offset_stands
+returns-then-not-offset_stands g c =
     let m = g.T.Kind.meaning in
     let used = c.args.used in
     let rest = all_stand (map (pushed m g.T.Kind.lawful) (drop (c.loop-item.item-index + 1) c.args.items.now)) used in
     let next = stand_rest m g.T.Kind.lawful c.args.items.now c.loop-item.item-index _ c.item-item.result refl c.loop-item-test.true c.item-item.is used in
-    let test : false ≡ stands (m.offset c.item-item.result) used = c.if-not-offset-stands.ensures ∙ ap (λ (o : Option ℕ). stands o used) c.offset.ensures in
+    let test : false ≡ stands (m.offset c.item-item.result) used = c.if-not-offset_stands.ensures ∙ ap (λ (o : Option ℕ). stands o used) c.offset.ensures in
     ap (λ (b : Bool). b && rest) test ∙ sym next ∙ c.loop-item.invariant
 
 pub returns : goal.returns

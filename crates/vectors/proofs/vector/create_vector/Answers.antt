@@ -18,7 +18,7 @@ returns-in-None g c =
     let s = c.args.space.now in
     let code : List Pushed = map (pushed m law) c.args.items.now in
     let used = length (taken g.S.Allocator.list s) in
-    let stand : all_stand code used ≡ true = ap (all_stand code) (sym c.used-used.ensures) ∙ sym c.if-not-all-offsets-stand.ensures in
+    let stand : all_stand code used ≡ true = ap (all_stand code) (sym c.used-used.ensures) ∙ sym c.if-not-all_offsets_stand.ensures in
     let space = same_space c.used-used.result used (length c.args.items.now) (length code) c.size.result m.size c.alignment.result m.alignment
     c.used-used.ensures (sym (length-map c.args.items.now (pushed m law))) c.size.ensures c.alignment.ensures in
     let long = too_long _ _ c.in-None.ensures in
@@ -28,21 +28,21 @@ returns-in-None g c =
       fit = λ no. absurd (false≢true no);
     }
 
-pub prepend-vector-requires : goal.prepend-vector-requires
-prepend-vector-requires g c =
+pub prepend_vector-requires : goal.prepend_vector-requires
+prepend_vector-requires g c =
     let found = found_padding _ _ _ c.in-Some.ensures in
     let size = ap (λ (n : ℕ). length c.args.items.now * n) c.size.ensures in
     omega (arith, found.0, found.1, c.used-used.ensures)
 
-pub overflow-cast-result : goal.overflow-cast-result
-overflow-cast-result g c =
+pub overflow_cast-result : goal.overflow_cast-result
+overflow_cast-result g c =
     let m = g.T.Kind.meaning in
     let law = g.T.Kind.lawful in
     let list = g.S.Allocator.list in
     let limit = g.S.Allocator.limit in
     let s = c.args.space.now in
     let items = c.args.items.now in
-    let after = c.prepend-vector.new.space in
+    let after = c.prepend_vector.new.space in
     let code : List Pushed = map (pushed m law) items in
     let used = length (taken list s) in
     let count = sym (length-map items (pushed m law)) in
@@ -61,7 +61,7 @@ returns-in-Err g c =
     let limit = g.S.Allocator.limit in
     let s = c.args.space.now in
     let items = c.args.items.now in
-    let after = c.prepend-vector.new.space in
+    let after = c.prepend_vector.new.space in
     let code : List Pushed = map (pushed m law) items in
     let used = length (taken list s) in
     let count = sym (length-map items (pushed m law)) in
@@ -69,7 +69,7 @@ returns-in-Err g c =
     let pad = found.1 ∙ same_padding c.used-used.result used (length items) (length code) c.size.result m.size c.alignment.result m.alignment c.used-used.ensures count c.size.ensures c.alignment.ensures in
     let space = same_space c.used-used.result used (length items) (length code) c.size.result m.size c.alignment.result m.alignment c.used-used.ensures count c.size.ensures c.alignment.ensures in
     let low : vector_offset (layout m law) code used ≤ 2147483647 = omega (arith, found.0, space) in
-    let stand : all_stand code used ≡ true = ap (all_stand code) (sym c.used-used.ensures) ∙ sym c.if-not-all-offsets-stand.ensures in
+    let stand : all_stand code used ≡ true = ap (all_stand code) (sym c.used-used.ensures) ∙ sym c.if-not-all_offsets_stand.ensures in
     let done = vector_written m law list limit s after items c.in-Some.pad false pad c.in-Err.ensures.space in
     record {
       answer = sym (vector_store (layout m law) code used (limit s.allocator) stand low (prepended_allowed list limit s after false _ _ (length_vector (layout m law) code used (all_of m law items)) done));
@@ -85,7 +85,7 @@ returns-in-Ok g c =
     let limit = g.S.Allocator.limit in
     let s = c.args.space.now in
     let items = c.args.items.now in
-    let after = c.prepend-vector.new.space in
+    let after = c.prepend_vector.new.space in
     let code : List Pushed = map (pushed m law) items in
     let used = length (taken list s) in
     let count = sym (length-map items (pushed m law)) in
@@ -93,7 +93,7 @@ returns-in-Ok g c =
     let pad = found.1 ∙ same_padding c.used-used.result used (length items) (length code) c.size.result m.size c.alignment.result m.alignment c.used-used.ensures count c.size.ensures c.alignment.ensures in
     let space = same_space c.used-used.result used (length items) (length code) c.size.result m.size c.alignment.result m.alignment c.used-used.ensures count c.size.ensures c.alignment.ensures in
     let low : vector_offset (layout m law) code used ≤ 2147483647 = omega (arith, found.0, space) in
-    let stand : all_stand code used ≡ true = ap (all_stand code) (sym c.used-used.ensures) ∙ sym c.if-not-all-offsets-stand.ensures in
+    let stand : all_stand code used ≡ true = ap (all_stand code) (sym c.used-used.ensures) ∙ sym c.if-not-all_offsets_stand.ensures in
     let done = vector_written m law list limit s after items c.in-Some.pad true pad c.in-Ok.ensures.space in
     let offset : c.used.result ≡ vector_offset (layout m law) code used = c.used.ensures ∙ prepended_used list limit s after _ _ (length_vector (layout m law) code used (all_of m law items)) done in
     record {

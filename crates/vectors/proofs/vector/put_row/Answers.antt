@@ -40,12 +40,12 @@ loop-i-preserved g c =
     let more = row_more m law items i j x (omega arith) (omega arith) c.index-items-i.is used in
     let size = law.long x (length (taken list mid)) in
     let room = room_more m law items i j x (omega arith) (omega arith) c.index-items-i.is in
-    let put = placed_done list limit mid c.put-value.new.space c.put-value.result _
-    (omega (arith, c.requires.room, placed_rest list limit s mid behind before, length_code m law (drop j items) used)) c.put-value.ensures.placed in
-    let done : c.put-value.result ≡ true = c.put-value.ensures.placed.answer ∙ sym put.answer in (
-      subst (λ (l : List ℕ). Placed list limit s c.put-value.new.space true l) (ap (λ (l : List ℕ). l ++ behind) bytes ∙ sym more)
-          (placed_placed list limit s mid c.put-value.new.space behind _ before put),
-      fit_more m law items i j x (omega arith) (omega arith) c.index-items-i.is (c.put-value.ensures.fits done) c.loop-i.invariant.1,
+    let put = placed_done list limit mid c.put_value.new.space c.put_value.result _
+    (omega (arith, c.requires.room, placed_rest list limit s mid behind before, length_code m law (drop j items) used)) c.put_value.ensures.placed in
+    let done : c.put_value.result ≡ true = c.put_value.ensures.placed.answer ∙ sym put.answer in (
+      subst (λ (l : List ℕ). Placed list limit s c.put_value.new.space true l) (ap (λ (l : List ℕ). l ++ behind) bytes ∙ sym more)
+          (placed_placed list limit s mid c.put_value.new.space behind _ before put),
+      fit_more m law items i j x (omega arith) (omega arith) c.index-items-i.is (c.put_value.ensures.fits done) c.loop-i.invariant.1,
     )
 
 pub returns : goal.returns

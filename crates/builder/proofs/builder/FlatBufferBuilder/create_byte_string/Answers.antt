@@ -20,8 +20,8 @@ use Rattle.builder.specs.View.{nest_of, view}
 use Rattle.builder.proofs.Wrapped.{did_done, did_refused, pass_two, pass_three, taken_short, wrote_is}
 use Rattle.builder.proofs.builder.FlatBufferBuilder.create_byte_string.Goals as goal
 
-pub invariant-of-self-2 : goal.invariant-of-self-2
-invariant-of-self-2 g c =
+pub invariant_of-self-2 : goal.invariant_of-self-2
+invariant_of-self-2 g c =
     let list = g.S.Allocator.list in
     let limit = g.S.Allocator.limit in
     let b = c.args.self.now in
@@ -29,7 +29,7 @@ invariant-of-self-2 g c =
     let used = length s.used in
     let text = c.args.text.now in
     let ts = string_tests text used s.limit in
-    let made = c.in-ok-off.ensures in
+    let made = c.in_ok-off.ensures in
     let low = space_low (string_space used (length text)) s.limit _ _ made.answer in
     (omega (arith, low, made.space.settled, prepended_used list limit b.space c.create_byte_string.new.space _ _ (length_string text used) made.space), tt)
 
@@ -43,8 +43,8 @@ returns g c =
     let text = c.args.text.now in
     let ts = string_tests text used s.limit in
     let closed : is_open s.nest ≡ false = ap (λ (o : Open). is_open (nest_of o (fields b.inner.field_locs))) c.in-Nothing.is in
-    let made = c.in-ok-off.ensures in
-    did_done list limit b _ (Call.create_byte_string text) at c.in-ok-off.off _ _ ts (string_object_bytes text used) made.answer
+    let made = c.in_ok-off.ensures in
+    did_done list limit b _ (Call.create_byte_string text) at c.in_ok-off.off _ _ ts (string_object_bytes text used) made.answer
     (pass_two s (is_open s.nest because Nested) ts c.if-self.false closed)
     (ap at (decided_ok _ _ ts made.answer))
     (wrote_is s _ _ 4 _ (string_object_bytes text used) made.space.limited made.space.used c.max-self.ensures)

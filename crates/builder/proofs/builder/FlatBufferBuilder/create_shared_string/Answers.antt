@@ -31,10 +31,10 @@ returns-in-Some g c =
     let call = Call.create_shared_string text in
     let full = no_room (length s.strings) because Full in
     let closed : is_open s.nest ≡ false = ap (λ (o : Open). is_open (nest_of o (fields b.inner.field_locs))) c.in-Nothing.is in
-    let formed : not (well_formed text) ≡ false = ap not (sym c.if-not-is-utf8.ensures) in
+    let formed : not (well_formed text) ≡ false = ap not (sym c.if-not-is_utf8.ensures) in
     let pass : (y : Reply) → decided (tests call s) y ≡ decided (shared_tests text (pooled text s) s) y =
     λ y. pass_three s (is_open s.nest because Nested) (not (well_formed text) because Text) (shared_tests text (pooled text s) s) c.if-self.false closed formed y in
-    let old : pooled text s ≡ Some c.in-Some.off = sym c.find-string.ensures ∙ c.in-Some.is in
+    let old : pooled text s ≡ Some c.in-Some.off = sym c.find_string.ensures ∙ c.in-Some.is in
     let told : Ok (at c.in-Some.off) ≡ decided (tests call s) (reply call s) =
     sym (pass (reply call s) ∙ ap (λ (o : Option ℕ). decided (shared_tests text o s) (shared_reply o (string_space used (length text)))) old) in
     record {
@@ -45,8 +45,8 @@ returns-in-Some g c =
           (fronted_same list limit b.space used (omega (arith, parts_length list b.space)));
     }
 
-pub returns-in-err-room-for-string : goal.returns-in-err-room-for-string
-returns-in-err-room-for-string g c =
+pub returns-in_err-room_for_string : goal.returns-in_err-room_for_string
+returns-in_err-room_for_string g c =
     let list = g.S.Allocator.list in
     let limit = g.S.Allocator.limit in
     let b = c.args.self.now in
@@ -57,17 +57,17 @@ returns-in-err-room-for-string g c =
     let call = Call.create_shared_string text in
     let full = no_room (length s.strings) because Full in
     let closed : is_open s.nest ≡ false = ap (λ (o : Open). is_open (nest_of o (fields b.inner.field_locs))) c.in-Nothing.is in
-    let formed : not (well_formed text) ≡ false = ap not (sym c.if-not-is-utf8.ensures) in
+    let formed : not (well_formed text) ≡ false = ap not (sym c.if-not-is_utf8.ensures) in
     let pass : (y : Reply) → decided (tests call s) y ≡ decided (shared_tests text (pooled text s) s) y =
     λ y. pass_three s (is_open s.nest because Nested) (not (well_formed text) because Text) (shared_tests text (pooled text s) s) c.if-self.false closed formed y in
-    let fresh : pooled text s ≡ None = sym c.find-string.ensures ∙ c.in-default-find-string.is in
+    let fresh : pooled text s ≡ None = sym c.find_string.ensures ∙ c.in_default-find_string.is in
     let on : (y : Reply) → decided (tests call s) y ≡ decided (ts ++ full ∷ []) y = λ y. pass y ∙ ap (λ (o : Option ℕ). decided (shared_tests text o s) y) fresh in
     let new : reply call s ≡ at (string_space used (length text)) = ap (λ (o : Option ℕ). shared_reply o (string_space used (length text))) fresh in
     let goal : string_space used (length text) ≡ needs call s = sym (ap (λ (o : Option ℕ). shared_needs text o used) fresh) in
-    let told = c.in-err-room-for-string.ensures in
-    let after = c.room-for-string.new.space in
+    let told = c.in_err-room_for_string.ensures in
+    let after = c.room_for_string.new.space in
     let size = length_string text used in
-    let p = err_from_is_err_and c.from-residual.result c.from-residual.ensures.1 in
+    let p = err_from_is_err_and c.from_residual.result c.from_residual.ensures.1 in
     rw (p.1, p.2) (did_refused_by list limit b _ call refl at _ (string_object_bytes text used) (told_few _ ts _ (lit< tt, (lit< tt, tt)) told.answer)
     (decided_err_more _ ts (full ∷ []) (reply call s) (decided_err _ ts _ (reply call s) told.answer) ∙ sym (on (reply call s))) (size ∙ goal)
     (asked_refused _ (Spaced list limit b.space after false (string_padding used (length text) + length text + 5)) (Prepended list limit b.space after false (string_object_bytes text used)) (after ≡ b.space)
@@ -85,20 +85,20 @@ returns-then-len-ge-ENTRIES g c =
     let call = Call.create_shared_string text in
     let full = no_room (length s.strings) because Full in
     let closed : is_open s.nest ≡ false = ap (λ (o : Open). is_open (nest_of o (fields b.inner.field_locs))) c.in-Nothing.is in
-    let formed : not (well_formed text) ≡ false = ap not (sym c.if-not-is-utf8.ensures) in
+    let formed : not (well_formed text) ≡ false = ap not (sym c.if-not-is_utf8.ensures) in
     let pass : (y : Reply) → decided (tests call s) y ≡ decided (shared_tests text (pooled text s) s) y =
     λ y. pass_three s (is_open s.nest because Nested) (not (well_formed text) because Text) (shared_tests text (pooled text s) s) c.if-self.false closed formed y in
-    let fresh : pooled text s ≡ None = sym c.find-string.ensures ∙ c.in-default-find-string.is in
+    let fresh : pooled text s ≡ None = sym c.find_string.ensures ∙ c.in_default-find_string.is in
     let on : (y : Reply) → decided (tests call s) y ≡ decided (ts ++ full ∷ []) y = λ y. pass y ∙ ap (λ (o : Option ℕ). decided (shared_tests text o s) y) fresh in
     let new : reply call s ≡ at (string_space used (length text)) = ap (λ (o : Option ℕ). shared_reply o (string_space used (length text))) fresh in
     let goal : string_space used (length text) ≡ needs call s = sym (ap (λ (o : Option ℕ). shared_needs text o used) fresh) in
-    let made = c.in-ok-room-for-string.ensures in
+    let made = c.in_ok-room_for_string.ensures in
     let stop : no_room (length s.strings) ≡ true = le-leb 256 (length s.strings) (omega (arith, c.if-len-ge-ENTRIES.true, c.len.ensures)) in
     let size = length_string text used in
     did_full list limit b _ call refl at _ (sym (on (reply call s) ∙ decided_ok_more _ _ ts (full ∷ []) (reply call s) made.answer ∙ decided_stop (reply call s) full [] stop)) (omega (arith, goal)) made.space
 
-pub invariant-of-self-2 : goal.invariant-of-self-2
-invariant-of-self-2 g c =
+pub invariant_of-self-2 : goal.invariant_of-self-2
+invariant_of-self-2 g c =
     let list = g.S.Allocator.list in
     let limit = g.S.Allocator.limit in
     let b = c.args.self.now in
@@ -108,7 +108,7 @@ invariant-of-self-2 g c =
     let ts = string_tests text used s.limit in
     let call = Call.create_shared_string text in
     let full = no_room (length s.strings) because Full in
-    let made = c.in-ok-off.ensures in
+    let made = c.in_ok-off.ensures in
     let low = space_low (string_space used (length text)) s.limit _ _ made.answer in
     (omega (arith, low, made.space.settled, prepended_used list limit b.space c.create_byte_string.new.space _ _ (length_string text used) made.space), tt)
 
@@ -124,20 +124,20 @@ returns g c =
     let call = Call.create_shared_string text in
     let full = no_room (length s.strings) because Full in
     let closed : is_open s.nest ≡ false = ap (λ (o : Open). is_open (nest_of o (fields b.inner.field_locs))) c.in-Nothing.is in
-    let formed : not (well_formed text) ≡ false = ap not (sym c.if-not-is-utf8.ensures) in
+    let formed : not (well_formed text) ≡ false = ap not (sym c.if-not-is_utf8.ensures) in
     let pass : (y : Reply) → decided (tests call s) y ≡ decided (shared_tests text (pooled text s) s) y =
     λ y. pass_three s (is_open s.nest because Nested) (not (well_formed text) because Text) (shared_tests text (pooled text s) s) c.if-self.false closed formed y in
-    let fresh : pooled text s ≡ None = sym c.find-string.ensures ∙ c.in-default-find-string.is in
+    let fresh : pooled text s ≡ None = sym c.find_string.ensures ∙ c.in_default-find_string.is in
     let on : (y : Reply) → decided (tests call s) y ≡ decided (ts ++ full ∷ []) y = λ y. pass y ∙ ap (λ (o : Option ℕ). decided (shared_tests text o s) y) fresh in
     let new : reply call s ≡ at (string_space used (length text)) = ap (λ (o : Option ℕ). shared_reply o (string_space used (length text))) fresh in
     let goal : string_space used (length text) ≡ needs call s = sym (ap (λ (o : Option ℕ). shared_needs text o used) fresh) in
-    let made = c.in-ok-off.ensures in
+    let made = c.in_ok-off.ensures in
     let room : no_room (length s.strings) ≡ false = lt-leb 256 (length s.strings) (omega (arith, c.if-len-ge-ENTRIES.false, c.len.ensures)) in
-    let off : c.in-ok-off.off ≡ string_space used (length text) = decided_ok _ _ ts made.answer in
+    let off : c.in_ok-off.off ≡ string_space used (length text) = decided_ok _ _ ts made.answer in
     let yes : c.push.result ≡ true = c.push.ensures.value ∙ ap not room in
     let kept : offsets c.push.new.self ≡ s.strings ++ string_space used (length text) ∷ [] =
     put_done c.push.result _ _ _ yes c.push.ensures.offsets ∙ ap (λ (o : ℕ). s.strings ++ o ∷ []) off in
-    did_done_by list limit b _ call at c.in-ok-off.off (string_object_bytes text used)
+    did_done_by list limit b _ call at c.in_ok-off.off (string_object_bytes text used)
     (ap (λ (o : ℕ). Ok (at o)) off ∙ ap Ok (sym new) ∙ sym (on (reply call s) ∙ decided_ok_more _ _ ts (full ∷ []) (reply call s) made.answer ∙ decided_pass (reply call s) full [] room))
     (pooled_is s _ _ _ (string_object_bytes text used) _ (string_space used (length text)) made.space.limited made.space.used c.max-self.ensures kept ∙ sym (ap (λ (o : Option ℕ). shared text o s) fresh))
     refl (length_string text used ∙ goal) made.space

@@ -20,8 +20,8 @@ use Rattle.builder.specs.View.{nest_of, view}
 use Rattle.builder.proofs.Wrapped.{did_done, did_refused, pass_two, pass_three, taken_short, wrote_is}
 use Rattle.builder.proofs.builder.FlatBufferBuilder.create_vector.Goals as goal
 
-pub returns-in-err-off : goal.returns-in-err-off
-returns-in-err-off g c =
+pub returns-in_err-off : goal.returns-in_err-off
+returns-in_err-off g c =
     let list = g.S.Allocator.list in
     let limit = g.S.Allocator.limit in
     let b = c.args.self.now in
@@ -34,13 +34,13 @@ returns-in-err-off g c =
     let of = all_of m law c.args.items.now in
     let ts = vector_tests k items used s.limit in
     let size = length_vector k items used of in
-    let told = c.in-err-off.ensures in
-    let p = err_from_is_err_and c.from-residual.result c.from-residual.ensures.1 in
+    let told = c.in_err-off.ensures in
+    let p = err_from_is_err_and c.from_residual.result c.from_residual.ensures.1 in
     rw (p.1, p.2) (did_refused list limit b _ (Call.create_vector k items of) refl at _ ts (vector_offset k items used) (vector_bytes k items used) (lit< tt, (lit< tt, (lit< tt, tt))) told.answer
     (λ y. decided_pass y (s.finished because Finished) ts c.if-self.false) size told.space)
 
-pub invariant-of-self-2 : goal.invariant-of-self-2
-invariant-of-self-2 g c =
+pub invariant_of-self-2 : goal.invariant_of-self-2
+invariant_of-self-2 g c =
     let list = g.S.Allocator.list in
     let limit = g.S.Allocator.limit in
     let b = c.args.self.now in
@@ -53,7 +53,7 @@ invariant-of-self-2 g c =
     let of = all_of m law c.args.items.now in
     let ts = vector_tests k items used s.limit in
     let size = length_vector k items used of in
-    let made = c.in-ok-off.ensures in
+    let made = c.in_ok-off.ensures in
     let low = space_low (vector_offset k items used) s.limit _ _ (passed_on (not (all_stand items used) because Offset) (space_tests (vector_offset k items used) s.limit) _ _ made.answer).1 in
     (omega (arith, low, made.space.settled, prepended_used list limit b.space c.create_vector.new.space _ _ size made.space), tt)
 
@@ -71,8 +71,8 @@ returns g c =
     let of = all_of m law c.args.items.now in
     let ts = vector_tests k items used s.limit in
     let size = length_vector k items used of in
-    let made = c.in-ok-off.ensures in
-    did_done list limit b _ (Call.create_vector k items of) at c.in-ok-off.off _ _ ts (vector_bytes k items used) made.answer
+    let made = c.in_ok-off.ensures in
+    did_done list limit b _ (Call.create_vector k items of) at c.in_ok-off.off _ _ ts (vector_bytes k items used) made.answer
     (λ y. decided_pass y (s.finished because Finished) ts c.if-self.false)
     (ap at (decided_ok _ _ ts made.answer))
     (wrote_is s _ _ (max m.alignment 4) _ (vector_bytes k items used) made.space.limited made.space.used (c.max-self.ensures ∙ ap (max s.met) (c.max.ensures ∙ ap (λ (n : ℕ). max n 4) c.alignment.ensures)))

@@ -17,8 +17,8 @@ use Rattle.builder.specs.View.{nest_of, view}
 use Rattle.builder.proofs.Wrapped.{fronted_limit, fronted_short, kept_refused, left_is, length_table, pass_two}
 use Rattle.builder.proofs.builder.FlatBufferBuilder.end_table.Goals as goal
 
-pub invariant-of-self : goal.invariant-of-self
-invariant-of-self g c =
+pub invariant_of-self : goal.invariant_of-self
+invariant_of-self g c =
     let list = g.S.Allocator.list in
     let limit = g.S.Allocator.limit in
     let b = c.args.self.now in
@@ -30,11 +30,11 @@ invariant-of-self g c =
     let found = equal_object s.used vt s.vtables in
     let ts = table_tests start ls s.used s.vtables s.limit in
     let after = c.end_table.new.space in
-    let told = c.in-err-off.ensures in
+    let told = c.in_err-off.ensures in
     (fronted_short list limit b.space after _ _ 2147483647 told.store told.used b.short, tt)
 
-pub returns-in-err-off : goal.returns-in-err-off
-returns-in-err-off g c =
+pub returns-in_err-off : goal.returns-in_err-off
+returns-in_err-off g c =
     let list = g.S.Allocator.list in
     let limit = g.S.Allocator.limit in
     let b = c.args.self.now in
@@ -46,25 +46,25 @@ returns-in-err-off g c =
     let found = equal_object s.used vt s.vtables in
     let ts = table_tests start ls s.used s.vtables s.limit in
     let after = c.end_table.new.space in
-    let told = c.in-err-off.ensures in
+    let told = c.in_err-off.ensures in
     let nest : b.inner.nest ≡ Table start = c.in-Table.is ∙ ap Table (sym c.if-start-begun.true) in
     let ends : not (ends_table start s.nest) ≡ false = ap (λ (o : Open). not (ends_table start (nest_of o ls))) nest ∙ ap not (eq-eqb start start refl) in
     let same : end_table_tests s.nest s ≡ ts = ap (λ (o : Open). end_table_tests (nest_of o ls) s) nest in
     let pass : (y : Reply) → decided (tests (Call.end_table start) s) y ≡ decided ts y =
     λ y. pass_two s (not (ends_table start s.nest) because NotOpen) (end_table_tests s.nest s) c.if-self.false ends y ∙ ap (λ (us : List Test). decided us y) same in
     let answer = decided_err _ ts _ (at (table_offset used)) told.answer ∙ sym (pass (at (table_offset used))) in
-    let p = err_from_is_err_and c.from-residual.result c.from-residual.ensures.1 in
+    let p = err_from_is_err_and c.from_residual.result c.from_residual.ensures.1 in
     rw (p.1, p.2) record {
       answer = answer;
       state =
           left_is s _ _ _ (fronted_limit list limit b.space after _ _ told.store) told.used told.vtables
           ∙ sym (kept_refused _ (tests (Call.end_table start) s) (at (table_offset used)) (effect (Call.end_table start) s) s answer);
-      store = subst (λ (k : ℕ). Where (leb 12 (number c.in-err-off.field-0.0)) (Fronted list limit b.space after k 0 (eqb (number c.in-err-off.field-0.0) 12)) (after ≡ b.space))
+      store = subst (λ (k : ℕ). Where (leb 12 (number c.in_err-off.field-0.0)) (Fronted list limit b.space after k 0 (eqb (number c.in_err-off.field-0.0) 12)) (after ≡ b.space))
           (sym (ap (λ (o : Open). table_needs (nest_of o ls) used) nest)) told.store;
     }
 
-pub invariant-of-self-2 : goal.invariant-of-self-2
-invariant-of-self-2 g c =
+pub invariant_of-self-2 : goal.invariant_of-self-2
+invariant_of-self-2 g c =
     let list = g.S.Allocator.list in
     let limit = g.S.Allocator.limit in
     let b = c.args.self.now in
@@ -76,7 +76,7 @@ invariant-of-self-2 g c =
     let found = equal_object s.used vt s.vtables in
     let ts = table_tests start ls s.used s.vtables s.limit in
     let after = c.end_table.new.space in
-    let made = c.in-ok-off.ensures in
+    let made = c.in_ok-off.ensures in
     let rest = too_much (table_space used vt found) ∷ above (table_offset used + length vt) s.limit ∷ ((not (is_some found) && no_room (length s.vtables)) because Full) ∷ [] in
     let one = (passed_on (ltb 65535 (table_offset used - start) because TableTooLarge) rest _ _ made.answer).1 in
     let low = tests_low (table_space used vt found) (above (table_offset used + length vt) s.limit ∷ ((not (is_some found) && no_room (length s.vtables)) because Full) ∷ []) _ _ one in

@@ -25,39 +25,39 @@ use Rattle.wire.specs.declared.refusal.Refusal.TheVariants.{Identifier}
 use Rattle.wire.specs.Kind.{stands}
 use Rattle.builder.proofs.builder.FlatBufferBuilder.finish_with_opts.Goals as goal
 
-pub returns-in-err-finish : goal.returns-in-err-finish
-returns-in-err-finish g c =
+pub returns-in_err-finish : goal.returns-in_err-finish
+returns-in_err-finish g c =
     let list = g.S.Allocator.list in
     let limit = g.S.Allocator.limit in
     let b = c.args.self.now in
     let s = view list limit b in
     let used = length s.used in
-    let id : Option (List ℕ) = option_map (λ x. x.now) c.args.file-identifier in
-    let prefixed = c.args.size-prefixed in
+    let id : Option (List ℕ) = option_map (λ x. x.now) c.args.file_identifier in
+    let prefixed = c.args.size_prefixed in
     let ts = finish_tests c.args.root id prefixed used s.met s.limit in
     let bytes = finish_bytes c.args.root id prefixed used s.met in
     let size = length_finish c.args.root id prefixed used s.met in
     let call = Call.finish c.args.root id prefixed in
     let closed : is_open s.nest ≡ false = ap (λ (o : Open). is_open (nest_of o (fields b.inner.field_locs))) c.in-Nothing.is in
-    let told = c.in-err-finish.ensures in
-    let p = err_from_is_err_and c.from-residual.result c.from-residual.ensures.1 in
+    let told = c.in_err-finish.ensures in
+    let p = err_from_is_err_and c.from_residual.result c.from_residual.ensures.1 in
     rw (p.1, p.2) (did_refused list limit b _ call refl (λ _. done) _ ts (tt {0}) bytes (lit< tt, (lit< tt, (lit< tt, (lit< tt, tt)))) told.answer
     (pass_two s (is_open s.nest because Nested) ts c.if-self.false closed) size told.space)
 
-pub invariant-of-self-2 : goal.invariant-of-self-2
-invariant-of-self-2 g c =
+pub invariant_of-self-2 : goal.invariant_of-self-2
+invariant_of-self-2 g c =
     let list = g.S.Allocator.list in
     let limit = g.S.Allocator.limit in
     let b = c.args.self.now in
     let s = view list limit b in
     let used = length s.used in
-    let id : Option (List ℕ) = option_map (λ x. x.now) c.args.file-identifier in
-    let prefixed = c.args.size-prefixed in
+    let id : Option (List ℕ) = option_map (λ x. x.now) c.args.file_identifier in
+    let prefixed = c.args.size_prefixed in
     let ts = finish_tests c.args.root id prefixed used s.met s.limit in
     let bytes = finish_bytes c.args.root id prefixed used s.met in
     let size = length_finish c.args.root id prefixed used s.met in
     let call = Call.finish c.args.root id prefixed in
-    let made = c.in-ok-finish.ensures in
+    let made = c.in_ok-finish.ensures in
     let rest = (not (stands (Some c.args.root) used) because Offset) ∷ space_tests (finish_space id prefixed used s.met) s.limit in
     let one = (passed_on (not (identifier_stands id) because Identifier) rest _ _ made.answer).1 in
     let two = (passed_on (not (stands (Some c.args.root) used) because Offset) (space_tests (finish_space id prefixed used s.met) s.limit) _ _ one).1 in
@@ -71,14 +71,14 @@ returns g c =
     let b = c.args.self.now in
     let s = view list limit b in
     let used = length s.used in
-    let id : Option (List ℕ) = option_map (λ x. x.now) c.args.file-identifier in
-    let prefixed = c.args.size-prefixed in
+    let id : Option (List ℕ) = option_map (λ x. x.now) c.args.file_identifier in
+    let prefixed = c.args.size_prefixed in
     let ts = finish_tests c.args.root id prefixed used s.met s.limit in
     let bytes = finish_bytes c.args.root id prefixed used s.met in
     let size = length_finish c.args.root id prefixed used s.met in
     let call = Call.finish c.args.root id prefixed in
     let closed : is_open s.nest ≡ false = ap (λ (o : Open). is_open (nest_of o (fields b.inner.field_locs))) c.in-Nothing.is in
-    let made = c.in-ok-finish.ensures in
+    let made = c.in_ok-finish.ensures in
     did_done list limit b _ call (λ _. done) tt _ _ ts bytes made.answer
     (pass_two s (is_open s.nest because Nested) ts c.if-self.false closed)
     refl

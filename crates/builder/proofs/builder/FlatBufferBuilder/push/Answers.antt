@@ -14,8 +14,8 @@ use Rattle.builder.specs.View.{view}
 use Rattle.builder.proofs.Wrapped.{did_done, did_refused, wrote_is}
 use Rattle.builder.proofs.builder.FlatBufferBuilder.push.Goals as goal
 
-pub returns-in-err-off : goal.returns-in-err-off
-returns-in-err-off g c =
+pub returns-in_err-off : goal.returns-in_err-off
+returns-in_err-off g c =
     let list = g.S.Allocator.list in
     let limit = g.S.Allocator.limit in
     let b = c.args.self.now in
@@ -23,13 +23,13 @@ returns-in-err-off g c =
     let x : Pushed = pushed g.T.Kind.meaning g.T.Kind.lawful c.args.x.now in
     let used = length s.used in
     let ts = push_tests x used s.limit in
-    let told = c.in-err-off.ensures in
-    let p = err_from_is_err_and c.from-residual.result c.from-residual.ensures.1 in
+    let told = c.in_err-off.ensures in
+    let p = err_from_is_err_and c.from_residual.result c.from_residual.ensures.1 in
     rw (p.1, p.2) (did_refused list limit b _ (Call.push x) refl at _ ts (pushed_offset x used) (pushed_bytes x used) (lit< tt, (lit< tt, (lit< tt, tt))) told.answer
     (λ y. decided_pass y (s.finished because Finished) ts c.if-self.false) (length_pushed x used) told.space)
 
-pub invariant-of-self-2 : goal.invariant-of-self-2
-invariant-of-self-2 g c =
+pub invariant_of-self-2 : goal.invariant_of-self-2
+invariant_of-self-2 g c =
     let list = g.S.Allocator.list in
     let limit = g.S.Allocator.limit in
     let b = c.args.self.now in
@@ -37,9 +37,9 @@ invariant-of-self-2 g c =
     let x : Pushed = pushed g.T.Kind.meaning g.T.Kind.lawful c.args.x.now in
     let used = length s.used in
     let ts = push_tests x used s.limit in
-    let made = c.in-ok-off.ensures in
+    let made = c.in_ok-off.ensures in
     let low = space_low (pushed_offset x used) s.limit _ _ (passed_on (not (stands x.offset used) because Offset) (space_tests (pushed_offset x used) s.limit) _ _ made.answer).1 in
-    (omega (arith, low, made.space.settled, prepended_used list limit b.space c.push-value.new.space _ _ (length_pushed x used) made.space), tt)
+    (omega (arith, low, made.space.settled, prepended_used list limit b.space c.push_value.new.space _ _ (length_pushed x used) made.space), tt)
 
 pub returns : goal.returns
 returns g c =
@@ -50,8 +50,8 @@ returns g c =
     let x : Pushed = pushed g.T.Kind.meaning g.T.Kind.lawful c.args.x.now in
     let used = length s.used in
     let ts = push_tests x used s.limit in
-    let made = c.in-ok-off.ensures in
-    did_done list limit b _ (Call.push x) at c.in-ok-off.off _ _ ts (pushed_bytes x used) made.answer
+    let made = c.in_ok-off.ensures in
+    did_done list limit b _ (Call.push x) at c.in_ok-off.off _ _ ts (pushed_bytes x used) made.answer
     (λ y. decided_pass y (s.finished because Finished) ts c.if-self.false)
     (ap at (decided_ok _ _ ts made.answer))
     (wrote_is s _ _ x.alignment _ (pushed_bytes x used) made.space.limited made.space.used (c.max-self.ensures ∙ ap (max s.met) c.alignment.ensures))

@@ -33,9 +33,9 @@ returns g c =
     let free : b.inner.force_defaults ≡ false = c.if-self.false in
     let none : (differs || s.forced) ≡ false = ap (λ (d : Bool). d || s.forced) same ∙ free in
     let in-it : not (in_table s.nest) ≡ false = ap (λ (o : Open). not (in_table (nest_of o ls))) c.in-Table.is in
-    let stands-it : not (slot_stands n) ≡ false = ap not (sym c.if-not-valid-slot.ensures) in
+    let stands-it : not (slot_stands n) ≡ false = ap not (sym c.if-not-valid_slot.ensures) in
     let offset : not (stands x.offset used) ≡ false =
-    ap not (ap (λ (o : Option ℕ). stands o used) (sym c.offset.ensures) ∙ ap (stands c.offset.result) (sym c.used.ensures) ∙ sym c.if-not-offset-stands.ensures) in
+    ap not (ap (λ (o : Option ℕ). stands o used) (sym c.offset.ensures) ∙ ap (stands c.offset.result) (sym c.used.ensures) ∙ sym c.if-not-offset_stands.ensures) in
     let rest = cond (differs || s.forced) (record_tests n x s) [] in
     let told : Ok done ≡ decided (tests call s) done =
     sym (pass_three s (not (in_table s.nest) because NotOpen) (not (slot_stands n) because Slot) ((not (stands x.offset used) because Offset) ∷ rest) c.if-self-2.false in-it stands-it done

@@ -18,8 +18,8 @@ use Rattle.builder.specs.View.{nest_of, view}
 use Rattle.builder.proofs.Wrapped.{did_done_by, did_full, did_refused_by, pass_three, recorded_nest, slotted_is, told_few, both, not_not, not_not', put_done}
 use Rattle.builder.proofs.builder.FlatBufferBuilder.push_slot_always.Goals as goal
 
-pub returns-in-err-room-for-value : goal.returns-in-err-room-for-value
-returns-in-err-room-for-value g c =
+pub returns-in_err-room_for_value : goal.returns-in_err-room_for_value
+returns-in_err-room_for_value g c =
     let list = g.S.Allocator.list in
     let limit = g.S.Allocator.limit in
     let b = c.args.self.now in
@@ -32,22 +32,22 @@ returns-in-err-room-for-value g c =
     let ls = fields b.inner.field_locs in
     let room = full_test n s.nest ∷ [] in
     let in-it : not (in_table s.nest) ≡ false = ap (λ (o : Open). not (in_table (nest_of o ls))) c.in-Table.is in
-    let stands-it : not (slot_stands n) ≡ false = ap not (sym c.if-not-valid-slot.ensures) in
+    let stands-it : not (slot_stands n) ≡ false = ap not (sym c.if-not-valid_slot.ensures) in
     let pass : (y : Reply) → decided (tests call s) y ≡ decided (ts ++ room) y =
     λ y. pass_three s (not (in_table s.nest) because NotOpen) (not (slot_stands n) because Slot) (ts ++ room) c.if-self.false in-it stands-it y in
     let here : (full_test n s.nest).fails ≡ (not (is_some (lookup n ls)) && no_room (length ls)) =
     ap (λ (o : Open). (full_test n (nest_of o ls)).fails) c.in-Table.is in
-    let told = c.in-err-room-for-value.ensures in
-    let after = c.room-for-value.new.space in
+    let told = c.in_err-room_for_value.ensures in
+    let after = c.room_for_value.new.space in
     let size = length_pushed x used in
-    let p = err_from_is_err_and c.from-residual.result c.from-residual.ensures.1 in
+    let p = err_from_is_err_and c.from_residual.result c.from_residual.ensures.1 in
     rw (p.1, p.2) (did_refused_by list limit b _ call refl (λ _. done) _ (pushed_bytes x used) (told_few _ ts _ (lit< tt, (lit< tt, (lit< tt, tt))) told.answer)
     (decided_err_more _ ts room _ (decided_err _ ts _ _ told.answer) ∙ sym (pass done)) size
     (asked_refused _ (Spaced list limit b.space after false (push_padding x used + x.size)) (Prepended list limit b.space after false (pushed_bytes x used)) (after ≡ b.space)
     (λ h. prepended_refused list limit b.space after _ (pushed_bytes x used) h (omega arith)) told.space))
 
-pub returns-then-not-room-for : goal.returns-then-not-room-for
-returns-then-not-room-for g c =
+pub returns-then-not-room_for : goal.returns-then-not-room_for
+returns-then-not-room_for g c =
     let list = g.S.Allocator.list in
     let limit = g.S.Allocator.limit in
     let b = c.args.self.now in
@@ -60,17 +60,17 @@ returns-then-not-room-for g c =
     let ls = fields b.inner.field_locs in
     let room = full_test n s.nest ∷ [] in
     let in-it : not (in_table s.nest) ≡ false = ap (λ (o : Open). not (in_table (nest_of o ls))) c.in-Table.is in
-    let stands-it : not (slot_stands n) ≡ false = ap not (sym c.if-not-valid-slot.ensures) in
+    let stands-it : not (slot_stands n) ≡ false = ap not (sym c.if-not-valid_slot.ensures) in
     let pass : (y : Reply) → decided (tests call s) y ≡ decided (ts ++ room) y =
     λ y. pass_three s (not (in_table s.nest) because NotOpen) (not (slot_stands n) because Slot) (ts ++ room) c.if-self.false in-it stands-it y in
     let here : (full_test n s.nest).fails ≡ (not (is_some (lookup n ls)) && no_room (length ls)) =
     ap (λ (o : Open). (full_test n (nest_of o ls)).fails) c.in-Table.is in
-    let made = c.in-ok-room-for-value.ensures in
-    let full : (full_test n s.nest).fails ≡ true = here ∙ not_not _ (sym c.if-not-room-for.ensures) in
+    let made = c.in_ok-room_for_value.ensures in
+    let full : (full_test n s.nest).fails ≡ true = here ∙ not_not _ (sym c.if-not-room_for.ensures) in
     did_full list limit b _ call refl (λ _. done) _ (sym (pass done ∙ decided_ok_more _ _ ts room done made.answer ∙ decided_stop done (full_test n s.nest) [] full)) (omega arith) made.space
 
-pub returns-in-err-off : goal.returns-in-err-off
-returns-in-err-off g c =
+pub returns-in_err-off : goal.returns-in_err-off
+returns-in_err-off g c =
     let list = g.S.Allocator.list in
     let limit = g.S.Allocator.limit in
     let b = c.args.self.now in
@@ -83,18 +83,18 @@ returns-in-err-off g c =
     let ls = fields b.inner.field_locs in
     let room = full_test n s.nest ∷ [] in
     let in-it : not (in_table s.nest) ≡ false = ap (λ (o : Open). not (in_table (nest_of o ls))) c.in-Table.is in
-    let stands-it : not (slot_stands n) ≡ false = ap not (sym c.if-not-valid-slot.ensures) in
+    let stands-it : not (slot_stands n) ≡ false = ap not (sym c.if-not-valid_slot.ensures) in
     let pass : (y : Reply) → decided (tests call s) y ≡ decided (ts ++ room) y =
     λ y. pass_three s (not (in_table s.nest) because NotOpen) (not (slot_stands n) because Slot) (ts ++ room) c.if-self.false in-it stands-it y in
     let here : (full_test n s.nest).fails ≡ (not (is_some (lookup n ls)) && no_room (length ls)) =
     ap (λ (o : Open). (full_test n (nest_of o ls)).fails) c.in-Table.is in
-    let told = c.in-err-off.ensures in
-    let p = err_from_is_err_and c.from-residual-in-err-off.result c.from-residual-in-err-off.ensures.1 in
+    let told = c.in_err-off.ensures in
+    let p = err_from_is_err_and c.from_residual-in_err-off.result c.from_residual-in_err-off.ensures.1 in
     rw (p.1, p.2) (did_refused_by list limit b _ call refl (λ _. done) _ (pushed_bytes x used) (told_few _ ts _ (lit< tt, (lit< tt, (lit< tt, tt))) told.answer)
     (decided_err_more _ ts room _ (decided_err _ ts _ _ told.answer) ∙ sym (pass done)) (length_pushed x used) told.space)
 
-pub invariant-of-self-2 : goal.invariant-of-self-2
-invariant-of-self-2 g c =
+pub invariant_of-self-2 : goal.invariant_of-self-2
+invariant_of-self-2 g c =
     let list = g.S.Allocator.list in
     let limit = g.S.Allocator.limit in
     let b = c.args.self.now in
@@ -106,9 +106,9 @@ invariant-of-self-2 g c =
     let call = Call.push_slot_always n x in
     let ls = fields b.inner.field_locs in
     let room = full_test n s.nest ∷ [] in
-    let made = c.in-ok-off.ensures in
+    let made = c.in_ok-off.ensures in
     let low = space_low (pushed_offset x used) s.limit _ _ (passed_on (not (stands x.offset used) because Offset) (space_tests (pushed_offset x used) s.limit) _ _ made.answer).1 in
-    (omega (arith, low, made.space.settled, prepended_used list limit b.space c.push-value.new.space _ _ (length_pushed x used) made.space), tt)
+    (omega (arith, low, made.space.settled, prepended_used list limit b.space c.push_value.new.space _ _ (length_pushed x used) made.space), tt)
 
 pub returns : goal.returns
 returns g c =
@@ -124,15 +124,15 @@ returns g c =
     let ls = fields b.inner.field_locs in
     let room = full_test n s.nest ∷ [] in
     let in-it : not (in_table s.nest) ≡ false = ap (λ (o : Open). not (in_table (nest_of o ls))) c.in-Table.is in
-    let stands-it : not (slot_stands n) ≡ false = ap not (sym c.if-not-valid-slot.ensures) in
+    let stands-it : not (slot_stands n) ≡ false = ap not (sym c.if-not-valid_slot.ensures) in
     let pass : (y : Reply) → decided (tests call s) y ≡ decided (ts ++ room) y =
     λ y. pass_three s (not (in_table s.nest) because NotOpen) (not (slot_stands n) because Slot) (ts ++ room) c.if-self.false in-it stands-it y in
     let here : (full_test n s.nest).fails ≡ (not (is_some (lookup n ls)) && no_room (length ls)) =
     ap (λ (o : Open). (full_test n (nest_of o ls)).fails) c.in-Table.is in
-    let made = c.in-ok-off.ensures in
-    let open-room : (not (is_some (lookup n ls)) && no_room (length ls)) ≡ false = not_not' _ (sym c.if-not-room-for.ensures) in
-    let off : c.in-ok-off.off ≡ pushed_offset x used = decided_ok _ _ ts made.answer in
-    let yes : c.record.result ≡ true = c.record.ensures.value ∙ both _ _ (sym c.if-not-valid-slot.ensures) (sym c.if-not-room-for.ensures) in
+    let made = c.in_ok-off.ensures in
+    let open-room : (not (is_some (lookup n ls)) && no_room (length ls)) ≡ false = not_not' _ (sym c.if-not-room_for.ensures) in
+    let off : c.in_ok-off.off ≡ pushed_offset x used = decided_ok _ _ ts made.answer in
+    let yes : c.record.result ≡ true = c.record.ensures.value ∙ both _ _ (sym c.if-not-valid_slot.ensures) (sym c.if-not-room_for.ensures) in
     let recorded : fields c.record.new.self ≡ record_slot n (pushed_offset x used) ls =
     put_done c.record.result _ _ _ yes c.record.ensures.fields ∙ ap (λ (o : ℕ). record_slot n o ls) off in
     did_done_by list limit b _ call (λ _. done) tt (pushed_bytes x used)

@@ -2,32 +2,32 @@ use Rattle.std.proofs.Common.{◌≡◌, arith}
 use Rattle.builder.proofs.Wrapped.{taken_short}
 use Rattle.builder.proofs.builder.FlatBufferBuilder.required.Goals as goal
 
-pub read-u32-word-requires : goal.read-u32-word-requires
-read-u32-word-requires g c =
+pub read_u32-word-requires : goal.read_u32-word-requires
+read_u32-word-requires g c =
     let b = c.args.self.now in
     let low = taken_short g.S.Allocator.list g.S.Allocator.limit b.space b.space b.space in
     let short = b.short in
     let used = c.used-used.ensures in
     omega arith
 
-pub read-u16-requires : goal.read-u16-requires
-read-u16-requires g c =
+pub read_u16-requires : goal.read_u16-requires
+read_u16-requires g c =
     let b = c.args.self.now in
     let low = taken_short g.S.Allocator.list g.S.Allocator.limit b.space b.space b.space in
     let short = b.short in
     let used = c.used-used.ensures in
     omega arith
 
-pub read-u16-requires-else-slot-read-u16 : goal.read-u16-requires-else-slot-read-u16
-read-u16-requires-else-slot-read-u16 g c =
+pub read_u16-requires-else-slot-read_u16 : goal.read_u16-requires-else-slot-read_u16
+read_u16-requires-else-slot-read_u16 g c =
     let b = c.args.self.now in
     let low = taken_short g.S.Allocator.list g.S.Allocator.limit b.space b.space b.space in
     let short = b.short in
     let used = c.used-used.ensures in
     omega arith
 
-pub vtable-stands-requires : goal.vtable-stands-requires
-vtable-stands-requires g c =
+pub vtable_stands-requires : goal.vtable_stands-requires
+vtable_stands-requires g c =
     let b = c.args.self.now in
     let low = taken_short g.S.Allocator.list g.S.Allocator.limit b.space b.space b.space in
     let short = b.short in

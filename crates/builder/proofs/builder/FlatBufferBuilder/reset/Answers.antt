@@ -7,8 +7,8 @@ use Rattle.model.specs.Calls.{Call}
 use Rattle.builder.specs.View.{view}
 use Rattle.builder.proofs.builder.FlatBufferBuilder.reset.Goals as goal
 
-pub invariant-of-self : goal.invariant-of-self
-invariant-of-self g c =
+pub invariant_of-self : goal.invariant_of-self
+invariant_of-self g c =
     let list = g.S.Allocator.list in
     let b = c.args.self.now in
     let back = c.release.ensures in

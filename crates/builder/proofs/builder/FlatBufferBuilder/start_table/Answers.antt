@@ -14,8 +14,8 @@ use Rattle.builder.specs.View.{nest_of, view}
 use Rattle.builder.proofs.Wrapped.{kept_pass, taken_short}
 use Rattle.builder.proofs.builder.FlatBufferBuilder.start_table.Goals as goal
 
-pub overflow-cast-start : goal.overflow-cast-start
-overflow-cast-start g c =
+pub overflow_cast-start : goal.overflow_cast-start
+overflow_cast-start g c =
     let s = c.args.self.now in
     omega (arith, taken_short g.S.Allocator.list g.S.Allocator.limit s.space s.space s.space, s.short, c.used-start.ensures)
 

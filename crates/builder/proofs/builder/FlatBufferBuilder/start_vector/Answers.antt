@@ -20,8 +20,8 @@ use Rattle.builder.specs.View.{nest_of, view}
 use Rattle.builder.proofs.Wrapped.{did_done, did_refused, pass_two, pass_three, taken_short, vector_is, wrote_is}
 use Rattle.builder.proofs.builder.FlatBufferBuilder.start_vector.Goals as goal
 
-pub returns-in-err-start-vector : goal.returns-in-err-start-vector
-returns-in-err-start-vector g c =
+pub returns-in_err-start_vector : goal.returns-in_err-start_vector
+returns-in_err-start_vector g c =
     let list = g.S.Allocator.list in
     let limit = g.S.Allocator.limit in
     let b = c.args.self.now in
@@ -34,13 +34,13 @@ returns-in-err-start-vector g c =
     let ts = start_vector_tests k count used s.limit in
     let size : used + length (zeros pad) ≡ start_space k count used = simp length-replicate in
     let closed : is_open s.nest ≡ false = ap (λ (o : Open). is_open (nest_of o (fields b.inner.field_locs))) c.in-Nothing.is in
-    let told = c.in-err-start-vector.ensures in
-    let p = err_from_is_err_and c.from-residual.result c.from-residual.ensures.1 in
+    let told = c.in_err-start_vector.ensures in
+    let p = err_from_is_err_and c.from_residual.result c.from_residual.ensures.1 in
     rw (p.1, p.2) (did_refused list limit b _ (Call.start_vector k count) refl (λ _. done) _ ts (tt {0}) (zeros pad) (lit< tt, (lit< tt, tt)) told.answer
     (pass_two s (is_open s.nest because Nested) ts c.if-self.false closed) size told.space)
 
-pub overflow-cast-self : goal.overflow-cast-self
-overflow-cast-self g c =
+pub overflow_cast-self : goal.overflow_cast-self
+overflow_cast-self g c =
     let list = g.S.Allocator.list in
     let limit = g.S.Allocator.limit in
     let b = c.args.self.now in
@@ -52,13 +52,13 @@ overflow-cast-self g c =
     let pad = vector_padding used (count * m.size) m.alignment in
     let ts = start_vector_tests k count used s.limit in
     let size : used + length (zeros pad) ≡ start_space k count used = simp length-replicate in
-    let made = c.in-ok-start-vector.ensures in
+    let made = c.in_ok-start_vector.ensures in
     let low = tests_low (vector_space used (count * m.size) m.alignment) (above (start_space k count used) s.limit ∷ []) _ _ made.answer in
     let long = prepended_used list limit b.space c.start_vector.new.space _ _ size made.space in
     omega (arith, low, long, c.used.ensures)
 
-pub invariant-of-self-2 : goal.invariant-of-self-2
-invariant-of-self-2 g c =
+pub invariant_of-self-2 : goal.invariant_of-self-2
+invariant_of-self-2 g c =
     let list = g.S.Allocator.list in
     let limit = g.S.Allocator.limit in
     let b = c.args.self.now in
@@ -70,7 +70,7 @@ invariant-of-self-2 g c =
     let pad = vector_padding used (count * m.size) m.alignment in
     let ts = start_vector_tests k count used s.limit in
     let size : used + length (zeros pad) ≡ start_space k count used = simp length-replicate in
-    let made = c.in-ok-start-vector.ensures in
+    let made = c.in_ok-start_vector.ensures in
     let low = tests_low (vector_space used (count * m.size) m.alignment) (above (start_space k count used) s.limit ∷ []) _ _ made.answer in
     let long = prepended_used list limit b.space c.start_vector.new.space _ _ size made.space in
     (omega (arith, low, made.space.settled, long), tt)
@@ -89,7 +89,7 @@ returns g c =
     let ts = start_vector_tests k count used s.limit in
     let size : used + length (zeros pad) ≡ start_space k count used = simp length-replicate in
     let closed : is_open s.nest ≡ false = ap (λ (o : Open). is_open (nest_of o (fields b.inner.field_locs))) c.in-Nothing.is in
-    let made = c.in-ok-start-vector.ensures in
+    let made = c.in_ok-start_vector.ensures in
     let low = tests_low (vector_space used (count * m.size) m.alignment) (above (start_space k count used) s.limit ∷ []) _ _ made.answer in
     let long = prepended_used list limit b.space c.start_vector.new.space _ _ size made.space in
     did_done list limit b _ (Call.start_vector k count) (λ _. done) tt _ _ ts (zeros pad) made.answer

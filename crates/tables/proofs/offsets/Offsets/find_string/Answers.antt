@@ -5,14 +5,14 @@ use Rattle.tables.specs.Fields.{offsets}
 use Rattle.tables.proofs.Objects.{found_some, found_none}
 use Rattle.tables.proofs.offsets.Offsets.find_string.Goals as goal
 
-pub returns-then-is-string : goal.returns-then-is-string
-returns-then-is-string g c =
+pub returns-then-is_string : goal.returns-then-is_string
+returns-then-is_string g c =
     let us = taken g.S.Allocator.list c.args.space.now in
     let bs = le 4 (length c.args.text.now) ++ c.args.text.now in
-    found_some us bs (offsets c.args.self.now) c.loop-off.off-index c.loop-off-test.true c.loop-off.invariant (sym c.if-is-string.ensures)
+    found_some us bs (offsets c.args.self.now) c.loop-off.off-index c.loop-off-test.true c.loop-off.invariant (sym c.if-is_string.ensures)
 
 pub loop-off-preserved : goal.loop-off-preserved
-loop-off-preserved g c = below_more _ _ c.loop-off.invariant (sym c.if-is-string.ensures)
+loop-off-preserved g c = below_more _ _ c.loop-off.invariant (sym c.if-is_string.ensures)
 
 pub returns : goal.returns
 returns g c =
