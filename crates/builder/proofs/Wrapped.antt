@@ -3,6 +3,7 @@ use Rattle.std.proofs.Common.{◌≡◌, ℕ, ◌+◌, ◌<◌, ◌≤◌, max, 
 use lib.ListN.{length-replicate}
 use Rattle.space.specs.Taken.{taken, Prepended, Fronted, Spaced}
 use Rattle.space.specs.declared.Space.{Space}
+use Rattle.store.specs.declared.allocator.Allocator.{Ghosts}
 use Rattle.space.proofs.Spaces.{fronted_done, fronted_refused, fronted_spaced}
 use Rattle.std.specs.List.{AllByRecursion as All}
 use Rattle.std.proofs.lemmas.Bool.{eq-eqb, leb-true}
@@ -182,7 +183,7 @@ told_few w (t ∷ ts) x few e = by t.fails e (told_few w ts x few.1)
     by true e rest = let same : w ≡ t.why = cc in subst (λ (v : Why). number v < 13) (sym same) few.0
     by false e rest = rest e
 
-module _ {S E : Type 0} (list : S → List ℕ) (limit : S → ℕ) (old new : FlatBufferBuilder S E) (c : Call) (same : new.inner ≡ old.inner) where
+module _ {S E : Type 0} {G : Ghosts S E} (list : S → List ℕ) (limit : S → ℕ) (old new : FlatBufferBuilder S E G) (c : Call) (same : new.inner ≡ old.inner) where
   -- what a call over the space refused, the builder's call refuses
   pub did_refused_by : {A : Type 0} (reply : A → Reply) (e : Refusal E) (bytes : List ℕ)
       → number (erased e) < 13 → Err (erased e) ≡ answered c (view list limit old)
@@ -234,7 +235,7 @@ module _ {S E : Type 0} (list : S → List ℕ) (limit : S → ℕ) (old new : F
         store = fronted_spaced list limit old.space new.space true want (needs c s) size space;
       }
 
-module _ {S E : Type 0} (list : S → List ℕ) (limit : S → ℕ) (old new : FlatBufferBuilder S E) (c : Call) where
+module _ {S E : Type 0} {G : Ghosts S E} (list : S → List ℕ) (limit : S → ℕ) (old new : FlatBufferBuilder S E G) (c : Call) where
   -- what a call over the space did, the builder's call does
   pub did_done_by : {A : Type 0} (reply : A → Reply) (v : A) (bytes : List ℕ)
       → Ok (reply v) ≡ answered c (view list limit old)

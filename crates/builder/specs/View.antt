@@ -5,6 +5,7 @@ use Rattle.model.specs.Calls.{Call, Reply, said}
 use Rattle.model.specs.State.{Nest, nothing, table, vector, State}
 use Rattle.model.specs.Steps.{after, answered, needs, returns}
 use Rattle.space.specs.Taken.{taken, Fronted}
+use Rattle.store.specs.declared.allocator.Allocator.{Ghosts}
 use Rattle.tables.specs.Fields.{fields, offsets}
 use Rattle.wire.specs.declared.refusal.Refusal.{Refusal}
 use Rattle.wire.specs.Answers.{Asked, by_store}
@@ -33,12 +34,12 @@ state_of limit used i =
       strings = offsets i.strings_pool;
     }
 
-module _ {S E : Type 0} (list : S → List ℕ) (limit : S → ℕ) where
-  abbrev pub view : FlatBufferBuilder S E → State
+module _ {S E : Type 0} {G : Ghosts S E} (list : S → List ℕ) (limit : S → ℕ) where
+  abbrev pub view : FlatBufferBuilder S E G → State
   view b = state_of (limit b.space.allocator) (taken list b.space) b.inner
 
   -- What a call did that was told r: its answer, the state after it, and what it left of the store.
-  pub record Did {A : Type 0} (reply : A → Reply) (c : Call) (old new : FlatBufferBuilder S E) (r : Result A (Refusal E)) : Type 0 where
+  pub record Did {A : Type 0} (reply : A → Reply) (c : Call) (old new : FlatBufferBuilder S E G) (r : Result A (Refusal E)) : Type 0 where
     pub answer : said reply r ≡ answered c (view old)
     pub state : view new ≡ after c (view old)
     pub store : Asked r (Fronted list limit old.space new.space (needs c (view old)) (cond (is_ok r) (returns c (view old)) 0) (by_store r)) (new.space ≡ old.space)

@@ -23,7 +23,7 @@ pub fn identifier_part(identifier: Option<&[u8]>) -> Option<&[u8]>
 
 // How many bytes a prefix has.
 fn prefix_len(size_prefixed: bool) -> usize
-    ensures { result ≡ cond size_prefixed 4 0 }
+    ensures { result ≡ (if size_prefixed then 4 else 0) }
 {
     if size_prefixed { 4 } else { 0 }
 }
@@ -44,7 +44,7 @@ fn put_root<S: Allocator>(space: &mut Space<S>, root: u32, id: &[u8], pad: usize
 // Puts the count of the used bytes in front of them, if it is asked for.
 fn put_prefix<S: Allocator>(space: &mut Space<S>, size_prefixed: bool)
     requires settled { space.old.used ≡ length (taken S.Allocator.list space.old) }
-    requires room { cond size_prefixed 4 0 ≤ length (rest S.Allocator.list space.old) }
+    requires room { (if size_prefixed then 4 else 0) ≤ length (rest S.Allocator.list space.old) }
     requires low { length (taken S.Allocator.list space.old) ≤ 2147483647 }
     ensures { Placed S.Allocator.list S.Allocator.limit space.old space.new true (prefix_bytes size_prefixed (length (taken S.Allocator.list space.old))) }
 {

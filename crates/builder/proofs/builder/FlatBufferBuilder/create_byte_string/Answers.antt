@@ -31,7 +31,7 @@ invariant_of-self-2 g c =
     let ts = string_tests text used s.limit in
     let made = c.in_ok-off.ensures in
     let low = space_low (string_space used (length text)) s.limit _ _ made.answer in
-    (omega (arith, low, made.space.settled, prepended_used list limit b.space c.create_byte_string.new.space _ _ (length_string text used) made.space), tt)
+    record { short = omega (arith, low, made.space.settled, prepended_used list limit b.space c.create_byte_string.new.space _ _ (length_string text used) made.space) }
 
 pub returns : goal.returns
 returns g c =

@@ -55,7 +55,7 @@ invariant_of-self-2 g c =
     let size = length_vector k items used of in
     let made = c.in_ok-off.ensures in
     let low = space_low (vector_offset k items used) s.limit _ _ (passed_on (not (all_stand items used) because Offset) (space_tests (vector_offset k items used) s.limit) _ _ made.answer).1 in
-    (omega (arith, low, made.space.settled, prepended_used list limit b.space c.create_vector.new.space _ _ size made.space), tt)
+    record { short = omega (arith, low, made.space.settled, prepended_used list limit b.space c.create_vector.new.space _ _ size made.space) }
 
 pub returns : goal.returns
 returns g c =

@@ -31,7 +31,7 @@ invariant_of-self g c =
     let ts = table_tests start ls s.used s.vtables s.limit in
     let after = c.end_table.new.space in
     let told = c.in_err-off.ensures in
-    (fronted_short list limit b.space after _ _ 2147483647 told.store told.used b.short, tt)
+    record { short = fronted_short list limit b.space after _ _ 2147483647 told.store told.used b.short }
 
 pub returns-in_err-off : goal.returns-in_err-off
 returns-in_err-off g c =
@@ -81,4 +81,4 @@ invariant_of-self-2 g c =
     let one = (passed_on (ltb 65535 (table_offset used - start) because TableTooLarge) rest _ _ made.answer).1 in
     let low = tests_low (table_space used vt found) (above (table_offset used + length vt) s.limit ∷ ((not (is_some found) && no_room (length s.vtables)) because Full) ∷ []) _ _ one in
     let long = ap length made.used ∙ length-append (table_bytes used vt found) s.used ∙ length_table used vt found in
-    (omega (arith, low, long, made.store.bounded, b.short), tt)
+    record { short = omega (arith, low, long, made.store.bounded, b.short) }

@@ -62,7 +62,7 @@ invariant_of-self-2 g c =
     let one = (passed_on (not (identifier_stands id) because Identifier) rest _ _ made.answer).1 in
     let two = (passed_on (not (stands (Some c.args.root) used) because Offset) (space_tests (finish_space id prefixed used s.met) s.limit) _ _ one).1 in
     let low = space_low (finish_space id prefixed used s.met) s.limit _ _ two in
-    (omega (arith, low, made.space.settled, prepended_used list limit b.space c.finish.new.space _ _ size made.space), tt)
+    record { short = omega (arith, low, made.space.settled, prepended_used list limit b.space c.finish.new.space _ _ size made.space) }
 
 pub returns : goal.returns
 returns g c =

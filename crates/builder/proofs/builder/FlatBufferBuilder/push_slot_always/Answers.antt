@@ -108,7 +108,7 @@ invariant_of-self-2 g c =
     let room = full_test n s.nest ∷ [] in
     let made = c.in_ok-off.ensures in
     let low = space_low (pushed_offset x used) s.limit _ _ (passed_on (not (stands x.offset used) because Offset) (space_tests (pushed_offset x used) s.limit) _ _ made.answer).1 in
-    (omega (arith, low, made.space.settled, prepended_used list limit b.space c.push_value.new.space _ _ (length_pushed x used) made.space), tt)
+    record { short = omega (arith, low, made.space.settled, prepended_used list limit b.space c.push_value.new.space _ _ (length_pushed x used) made.space) }
 
 pub returns : goal.returns
 returns g c =

@@ -13,7 +13,7 @@ invariant_of-self g c =
     let b = c.args.self.now in
     let back = c.release.ensures in
     let none : drop c.used-used.result (taken list b.space) ≡ [] = drop_all _ (taken list b.space) (omega (arith, c.used-used.ensures)) in
-    (omega (arith, back.settled, ap length (back.used ∙ none)), tt)
+    record { short = omega (arith, back.settled, ap length (back.used ∙ none)) }
 
 pub returns : goal.returns
 returns g c =

@@ -73,7 +73,7 @@ invariant_of-self-2 g c =
     let made = c.in_ok-start_vector.ensures in
     let low = tests_low (vector_space used (count * m.size) m.alignment) (above (start_space k count used) s.limit ∷ []) _ _ made.answer in
     let long = prepended_used list limit b.space c.start_vector.new.space _ _ size made.space in
-    (omega (arith, low, made.space.settled, long), tt)
+    record { short = omega (arith, low, made.space.settled, long) }
 
 pub returns : goal.returns
 returns g c =
