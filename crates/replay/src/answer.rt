@@ -45,11 +45,11 @@ pub struct Answers {
 }
 
 impl Answers {
-    pub fn new(output: Stdout, heap: Global) -> Answers {
-        Answers {
-            output: BufWriter::new(output),
+    pub fn new(output: Stdout, heap: Global) -> io::Result<Answers> {
+        Ok(Answers {
+            output: BufWriter::new(heap, output)?,
             heap,
-        }
+        })
     }
 
     pub fn done(&mut self) -> io::Result<()> {

@@ -14,8 +14,8 @@ use script::Script;
 use session::replay;
 
 fn run(rt: &HostRuntime) -> anyhow::Result<()> {
-    let mut script = Script::new(rt.stdin(), rt.alloc());
-    let mut answers = Answers::new(rt.stdout(), rt.alloc());
+    let mut script = Script::new(rt.stdin(), rt.alloc())?;
+    let mut answers = Answers::new(rt.stdout(), rt.alloc())?;
     replay(&mut script, &mut answers, rt.alloc())?;
     Ok(())
 }

@@ -37,12 +37,12 @@ pub struct Script {
 }
 
 impl Script {
-    pub fn new(input: Stdin, heap: Global) -> Script {
-        Script {
-            input: BufReader::new(input),
+    pub fn new(input: Stdin, heap: Global) -> io::Result<Script> {
+        Ok(Script {
+            input: BufReader::new(heap, input)?,
             line: Vec::new(heap),
             number: 0,
-        }
+        })
     }
 
     // Goes to the next line; false where there is none.
