@@ -1,5 +1,5 @@
 -- What a builder means to the model, and what a call promises.
-use Rattle.std.specs.Prelude.{◌≡◌, ℕ, Bool, cond, List, is_ok, Result}
+use Rattle.std.specs.Prelude.{◌≡◌, ℕ, cond, List, is_ok, Result}
 use Rattle.model.specs.declared.field_loc.FieldLoc.{FieldLoc}
 use Rattle.model.specs.Calls.{Call, Reply, said}
 use Rattle.model.specs.State.{Nest, nothing, table, vector, State}

@@ -1,5 +1,6 @@
 // Builds FlatBuffers in the space of any store.
 #![tactic(auto)]
+
 pub mod builder;
 pub mod data;
 pub mod finish;

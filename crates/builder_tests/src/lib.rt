@@ -1,5 +1,6 @@
 // The builder's worked examples, byte for byte, through the real code.
 #![tactic(auto)]
+
 #[cfg(test)]
 mod tests {
     use builder::builder::FlatBufferBuilder;
@@ -24,7 +25,7 @@ mod tests {
         let start = b.start_table()?;
         let table = b.end_table(start)?;
         b.finish_minimal(table)?;
-        assert!(rt; b.finished_data()? == [8, 0, 0, 0, 4, 0, 4, 0, 4, 0, 0, 0]);
+        assert!(rt; b.finished_data()? == [8, 0, 0, 0, 4, 0, 4, 0, 4, 0, 0, 0].as_slice());
         Ok(())
     }
 
@@ -38,6 +39,7 @@ mod tests {
                 == [
                     12, 0, 0, 0, 0, 0, 6, 0, 8, 0, 6, 0, 6, 0, 0, 0, 0, 0, 0x58, 2,
                 ]
+                .as_slice()
         );
         b.reset();
         let table = units(&mut b)?;

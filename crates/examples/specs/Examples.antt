@@ -1,14 +1,14 @@
 -- Worked examples of the builder's calls, computed from the model.
-use Rattle.std.specs.Prelude.{◌≡◌, ℕ, ◌+◌, ◌-◌, Bool, true, false, not, List, [], ◌∷◌, ◌++◌, length, take, pos, Some, None, Ok, Err, Result, refl}
+use Rattle.std.specs.Prelude.{◌≡◌, ℕ, ◌+◌, ◌-◌, true, false, not, List, [], ◌∷◌, ◌++◌, length, take, pos, Some, None, Ok, Err, Result, refl}
 use Rattle.std.proofs.Common.{inl, inr}
 use Rattle.std.specs.Float.{fin, binary32}
-use Rattle.wire.specs.declared.refusal.Refusal.TheVariants.{Finished, NotFinished, Nested, NotOpen, Slot, Identifier, Offset, Text, MissingSlot, TooLong, Store}
+use Rattle.wire.specs.declared.refusal.Refusal.TheVariants.{Finished, NotFinished, Nested, NotOpen, Slot, Identifier, Offset, Text, MissingSlot, TooLong}
 use Rattle.wire.proofs.Laws.{unsigned_law, float_law}
 use Rattle.wire.specs.Answers.{Why}
 use Rattle.wire.specs.Pushed.{Pushed, pushed, layout}
 use Rattle.wire.specs.Scalars.{unsigned, float}
 use Rattle.wire.specs.Words.{word}
-use Rattle.model.specs.Calls.{Call, push, push_slot, push_slot_always, start_table, end_table, start_vector, end_vector, create_byte_string, create_string, create_shared_string, finish, required, reset, force_defaults, finished_data, Reply, done, at, these}
+use Rattle.model.specs.Calls.{Call, push, push_slot, start_table, end_table, start_vector, create_string, create_shared_string, finish, required, finished_data, Reply, at}
 use Rattle.model.specs.State.{State, fresh}
 use Rattle.model.specs.Steps.{after, answered, records, slot_word, vtable_offset}
 

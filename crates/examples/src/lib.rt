@@ -1,5 +1,6 @@
 // Worked examples of the builder's calls.
 #![tactic(auto)]
+
 ghost use Rattle.std.specs.Prelude.{◌≡◌, true};
 ghost use Rattle.examples.specs.Examples.{Buffers, Fields, Strings, Told};
 

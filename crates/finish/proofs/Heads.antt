@@ -1,12 +1,12 @@
 -- What a finished buffer's head takes, and what finishing is told.
-use Rattle.std.proofs.Common.{◌≡◌, ℕ, ◌+◌, ◌≤◌, Bool, true, false, cond, not, List, ◌∷◌, ◌++◌, length, Some, None, Option, sym, refl, ap, ◌∙◌, arith, length-append}
+use Rattle.std.proofs.Common.{◌≡◌, ℕ, ◌+◌, Bool, true, false, cond, not, List, ◌∷◌, length, Some, None, Option, refl, ap, ◌∙◌, arith, length-append}
 use lib.ListN.{length-replicate}
 use Rattle.wire.specs.declared.refusal.Refusal.TheVariants.{Identifier, Offset}
 use Rattle.wire.specs.Answers.{decided, space_tests, ◌because◌}
 use Rattle.wire.specs.Bytes.{zeros}
 use Rattle.wire.specs.Kind.{stands}
 use Rattle.wire.proofs.Decided.{decided_pass}
-use Rattle.model.specs.Finish.{finish_bytes, finish_head, finish_padding, finish_space, finish_tests, headed, identifier_bytes, identifier_stands, prefix_bytes, rooted}
+use Rattle.model.specs.Finish.{finish_bytes, finish_padding, finish_space, finish_tests, identifier_bytes, identifier_stands, prefix_bytes, rooted}
 
 -- the part of an identifier that was found
 pub found_part : (b : Bool) (x y : List ℕ) → Some x ≡ cond b (Some y) None → (b ≡ true) × (x ≡ y)

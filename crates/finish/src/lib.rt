@@ -1,5 +1,6 @@
 // Finishing a buffer: the root's offset at its front.
 #![tactic(auto)]
+
 ghost use Rattle.std.specs.Prelude.{◌≡◌, ◌+◌, ◌≤◌, true, cond, length, is_ok, if◌then◌else◌, Some, None};
 ghost use Rattle.model.specs.Finish.{finish_bytes, finish_tests, identifier_bytes, identifier_stands, prefix_bytes, rooted};
 ghost use Rattle.space.specs.Taken.{rest, taken, Placed, Prepended};

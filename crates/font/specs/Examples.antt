@@ -2,7 +2,6 @@
 use Rattle.std.specs.Prelude.{◌≡◌, List, [], ◌∷◌, map, pos, negsuc, Some, None}
 use Rattle.wire.specs.Layouts.{vector_bytes}
 use Rattle.wire.specs.Pushed.{layout, pushed}
-use Rattle.font.specs.declared.anchor.Anchor.{Anchor}
 use Rattle.font.specs.declared.kern.Kern.{Kern}
 use Rattle.font.specs.Structs.{anchor, kern}
 use Rattle.font.specs.Laws.{kern_law}

@@ -1,5 +1,5 @@
 -- Anchor and Kern keep the law of kinds.
-use Rattle.std.specs.Prelude.{◌≡◌, ℕ, ◌^◌, ◌<◌, T, nat_lt, refl}
+use Rattle.std.specs.Prelude.{◌^◌, ◌<◌, T, nat_lt, refl}
 use Rattle.std.proofs.Common.{inl, inr, arith, ltb→lt}
 use Rattle.std.specs.Float.Ieee.Fits.{and_l, and_r}
 use Rattle.std.specs.Int.{w16}

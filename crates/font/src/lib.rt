@@ -1,5 +1,6 @@
 // The structs of a font pack.
 #![tactic(auto)]
+
 pub mod anchor;
 pub mod examples;
 pub mod kern;

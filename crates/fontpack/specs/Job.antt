@@ -1,5 +1,5 @@
 -- A name and its kerns in a buffer.
-use Rattle.std.specs.Prelude.{◌≡◌, ℕ, ◌+◌, ◌-◌, Bool, true, cond, List, ◌++◌, map, length, take, drop, Some, None, Option, nat_le}
+use Rattle.std.specs.Prelude.{ℕ, ◌+◌, ◌-◌, cond, List, ◌++◌, map, length, take, drop, Some, None, Option, nat_le}
 use Rattle.wire.specs.Layouts.{element, string_object_bytes, vector_bytes}
 use Rattle.wire.specs.Pushed.{layout, pushed}
 use Rattle.wire.specs.Words.{inside, word}

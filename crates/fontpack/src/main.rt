@@ -1,6 +1,7 @@
 // Puts a glyph's name and a list of kerns into each store, reads them back, and meets a limit; then builds a whole
 // font over each.
 #![tactic(auto)]
+
 mod job;
 mod pack;
 mod pack_report;

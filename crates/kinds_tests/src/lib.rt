@@ -1,5 +1,6 @@
 // What kinds push and read, byte for byte, and how vectors and strings lie in a store.
 #![tactic(auto)]
+
 #[cfg(test)]
 mod tests {
     use font::kern::Kern;
@@ -56,7 +57,7 @@ mod tests {
     fn vectors_and_strings_lie_as_the_format_says(rt: HostRuntime) {
         let mut space = Space::new(Still::new());
         assert!(rt; create_byte_string(&mut space, b"fi").is_ok());
-        assert!(rt; space.as_slice() == [2, 0, 0, 0, 0x66, 0x69, 0, 0]);
+        assert!(rt; space.as_slice() == [2, 0, 0, 0, 0x66, 0x69, 0, 0].as_slice());
         let kern = Kern {
             left: 3,
             right: 5,
@@ -68,6 +69,7 @@ mod tests {
                 == [
                     1, 0, 0, 0, 3, 0, 5, 0, 0xf6, 0xff, 0, 0, 2, 0, 0, 0, 0x66, 0x69, 0, 0,
                 ]
+                .as_slice()
         );
         assert!(rt; get::<Kern>(space.as_slice(), 4, 1, 0) == Some(kern));
         assert!(rt; get::<Kern>(space.as_slice(), 4, 1, 1) == None);
@@ -82,7 +84,7 @@ mod tests {
         let far = [WIPOffset::<u8>::new(8), WIPOffset::<u8>::new(9)];
         assert!(rt; create_vector(&mut space, &far) == Err(Refusal::Offset));
         assert!(rt; create_vector(&mut space, &[0u64; 2]) == Err(Refusal::Store(SliceFull)));
-        assert!(rt; space.as_slice() == [0; 8]);
+        assert!(rt; space.as_slice() == [0; 8].as_slice());
         assert!(rt; space.allocator().as_slice().len() == 20);
         assert!(rt; create_vector(&mut space, &[1u64]) == Ok(20));
     }

@@ -1,11 +1,11 @@
 -- One call: what it refuses, replies and leaves. A refused call leaves everything as it was.
 use Rattle.std.specs.Prelude.{ℕ, ◌+◌, ◌-◌, ◌*◌, ◌%◌, max, Bool, true, false, cond, not, ◌&&◌, ◌||◌, List, [], ◌∷◌, ◌++◌, length, is_some, Some, None, Option, Result, ◌==◌, nat_eq, nat_le, nat_lt}
 use Rattle.wire.specs.declared.refusal.Refusal.TheVariants.{Finished, NotFinished, Nested, NotOpen, Slot, Offset, Text, MissingSlot, Full}
-use Rattle.wire.specs.Answers.{Why, Test, ◌because◌, too_much, above, decided, space_tests, push_tests, start_vector_tests, string_tests, vector_tests}
+use Rattle.wire.specs.Answers.{Why, Test, ◌because◌, decided, space_tests, push_tests, start_vector_tests, string_tests, vector_tests}
 use Rattle.wire.specs.Bytes.{zeros}
 use Rattle.wire.specs.Kind.{stands}
 use Rattle.wire.specs.Layouts.{pushed_bytes, pushed_offset, start_space, string_object_bytes, string_space, vector_bytes, vector_offset, vector_padding}
-use Rattle.wire.specs.Pushed.{Pushed, Layout}
+use Rattle.wire.specs.Pushed.{Pushed}
 use Rattle.wire.specs.Utf8.{well_formed}
 use Rattle.wire.specs.Words.{le, word}
 use Rattle.model.specs.declared.field_loc.FieldLoc.{FieldLoc}

@@ -1,5 +1,6 @@
 // Reads a script of calls on a builder, one to a line, and prints an answer to each.
 #![tactic(auto)]
+
 mod answer;
 mod call;
 mod fault;

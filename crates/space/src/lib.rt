@@ -1,5 +1,6 @@
 // Space at the end of a store: what a builder has written so far, newest in front.
 #![tactic(auto)]
+
 ghost use Rattle.std.specs.Prelude.{◌≡◌, ◌+◌, ◌≤◌, min, true, false, [], length, drop, is_ok, if◌then◌else◌, nat_le, slice_index};
 ghost use Rattle.wire.specs.Bytes.{raised, written, zeros};
 ghost use Rattle.space.specs.Taken.{taken, rest, Spaced, Placed, Prepended, Released};

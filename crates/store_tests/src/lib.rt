@@ -1,5 +1,6 @@
 // Edge cases of the stores and of space in them, run.
 #![tactic(auto)]
+
 #[cfg(test)]
 mod tests {
     use space::Space;
@@ -95,7 +96,7 @@ mod tests {
         assert!(rt; prepends(&mut space, &[1, 2], true, 2, 2));
         assert!(rt; prepends(&mut space, &[3, 4, 5, 6, 7], false, 2, 6));
         assert!(rt; prepends(&mut space, &[3, 4, 5, 6], true, 6, 6));
-        assert!(rt; space.as_slice() == &[3, 4, 5, 6, 1, 2]);
+        assert!(rt; space.as_slice() == [3, 4, 5, 6, 1, 2].as_slice());
     }
 
     #[test]
@@ -105,8 +106,8 @@ mod tests {
         assert!(rt; space.prepend(&[1, 2, 3]).is_ok());
         space.release(2);
         assert!(rt; space.put_zeros(1) && space.put_front(&[8]));
-        assert!(rt; space.as_slice() == &[8, 0, 3]);
+        assert!(rt; space.as_slice() == [8, 0, 3].as_slice());
         space.release(usize::MAX);
-        assert!(rt; space.into_allocator().as_slice() == &[0; 4]);
+        assert!(rt; space.into_allocator().as_slice() == [0; 4].as_slice());
     }
 }

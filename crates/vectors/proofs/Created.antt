@@ -1,5 +1,5 @@
 -- What creating a vector or a string is told, from what its steps found.
-use Rattle.std.proofs.Common.{◌≡◌, ℕ, ◌+◌, ◌*◌, ◌≤◌, Bool, true, false, cond, not, ltb, leb, List, [], ◌∷◌, ◌++◌, map, length, Some, None, Ok, Err, Option, Result, sym, refl, ap, ◌∙◌, subst, arith}
+use Rattle.std.proofs.Common.{◌≡◌, ℕ, ◌+◌, ◌*◌, ◌≤◌, Bool, true, false, cond, not, ltb, leb, List, [], ◌∷◌, ◌++◌, map, length, Some, None, Ok, Err, Result, sym, refl, ap, ◌∙◌, subst, arith}
 use Rattle.std.proofs.lemmas.List.{length-map}
 use Rattle.std.proofs.lemmas.Bool.{ltb-false}
 use Rattle.space.specs.Taken.{taken, Prepended}
@@ -9,7 +9,7 @@ use Rattle.wire.specs.Answers.{Why, above, decided, space_tests, vector_tests, �
 use Rattle.wire.specs.Bytes.{zeros}
 use Rattle.wire.specs.Kind.{Meaning, Law}
 use Rattle.wire.specs.Layouts.{all_stand, padding, row, vector_bytes, vector_offset, vector_padding, vector_space}
-use Rattle.wire.specs.Pushed.{Pushed, Layout, layout, pushed, all_of}
+use Rattle.wire.specs.Pushed.{Pushed, Layout, layout, pushed}
 use Rattle.wire.specs.Words.{le}
 use Rattle.wire.proofs.Decided.{decided_pass, told_long, told_store, told_done}
 

@@ -1,6 +1,6 @@
 -- Bytes written in parts, from their end on.
-use Rattle.std.proofs.Common.{◌≡◌, ℕ, ◌+◌, ◌-◌, ◌<◌, ◌≤◌, List, [], ◌∷◌, ◌++◌, length, take, drop, sym, refl, ap, ◌∙◌, append-nil, arith, length-drop, take-append-drop, length-take}
-use Rattle.std.proofs.lemmas.List.{drop-drop, drop_all, take_at, length-append, take_all}
+use Rattle.std.proofs.Common.{◌≡◌, ℕ, ◌+◌, ◌≤◌, List, ◌++◌, length, take, drop, sym, ap, ◌∙◌, append-nil, arith, length-drop, take-append-drop, length-take}
+use Rattle.std.proofs.lemmas.List.{drop-drop, drop_all, take_at}
 use Rattle.wire.specs.Bytes.{filled}
 
 -- a part of exactly n bytes is filled whole

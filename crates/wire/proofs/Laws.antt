@@ -1,10 +1,9 @@
 -- The laws of the families of kinds.
-use Rattle.std.proofs.Common.{◌≡◌, ℕ, zero, suc, ◌+◌, ◌-◌, ◌*◌, ◌/◌, ◌%◌, ◌^◌, ◌<◌, ◌≤◌, Bool, true, false, cond, T, eqb, ltb, leb, ◌⊎◌, List, [], ◌∷◌, ◌++◌, length, get_or, ℤ, Some, None, Option, sym, refl, ap, ◌∙◌, inl, inr, suc-mul, mul-pos, arith, ltb→lt, to_z-of_z, w8, w16, w32, w64, SFits, to_z, of_z}
+use Rattle.std.proofs.Common.{◌≡◌, ℕ, ◌+◌, ◌-◌, ◌*◌, ◌^◌, ◌<◌, ◌≤◌, Bool, true, cond, T, ltb, leb, List, [], ◌∷◌, ◌++◌, length, ℤ, Some, None, refl, ap, ◌∙◌, inl, inr, suc-mul, mul-pos, arith, ltb→lt, to_z-of_z, SFits, to_z, of_z}
 use native.Mathlib.Nat.{mod_self, mul-mod_left}
 use lib.Signed.{mag}
-use lib.Ieee.{Float, Format, binary32, binary64, fits, to_bits, of_bits, top}
+use lib.Ieee.{Format, to_bits, of_bits, top}
 use lib.Ieee.Bits.{of_bits-to_bits, to_bits-lt}
-use lib.Ieee.Fits.{and_l, and_r}
 use mir.Syntax.{Width}
 use mir.Val.{hbits, bits}
 use mir.Facts.{Fits-of_z}
@@ -13,8 +12,8 @@ use Rattle.std.proofs.lemmas.List.{append_assoc, length-append}
 use Rattle.std.proofs.lemmas.Bool.Decides.{nat_tests}
 use Rattle.wire.specs.Bytes.{Octets}
 use Rattle.wire.specs.Words.{le, word, inside}
-use Rattle.wire.specs.Kind.{Meaning, Law, Alignment}
-use Rattle.wire.specs.Offsets.{position, followed, forwards}
+use Rattle.wire.specs.Kind.{Law, Alignment}
+use Rattle.wire.specs.Offsets.{position, forwards}
 use Rattle.wire.specs.Structs.{words, struct}
 use Rattle.wire.specs.Scalars.{within, scalar, unsigned, fits_signed, signed, float}
 use Rattle.wire.proofs.LittleEndian.{length_le, octets_append, octets_le, word_back}

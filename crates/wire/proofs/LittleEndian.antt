@@ -1,7 +1,7 @@
 -- Bytes written in little-endian order read back as the number.
-use Rattle.std.proofs.Common.{◌≡◌, ℕ, zero, suc, ◌+◌, ◌*◌, ◌/◌, ◌%◌, ◌^◌, ◌<◌, List, [], ◌∷◌, ◌++◌, length, get_or, sym, refl, ap, ◌∙◌, mod-lt, mod-eq_of_lt, mul_comm, add_comm, pow-suc, arith}
+use Rattle.std.proofs.Common.{◌≡◌, ℕ, zero, suc, ◌+◌, ◌*◌, ◌/◌, ◌%◌, ◌^◌, ◌<◌, List, [], ◌∷◌, ◌++◌, length, get_or, refl, ◌∙◌, mod-lt, mod-eq_of_lt, mul_comm, pow-suc, arith}
 use lib.Arith.{mod-mul}
-use Rattle.std.proofs.lemmas.List.{append_assoc, length-append, length_push, get_or-append-add, get_or_at}
+use Rattle.std.proofs.lemmas.List.{append_assoc, length_push, get_or-append-add, get_or_at}
 use Rattle.wire.specs.Bytes.{Octets}
 use Rattle.wire.specs.Words.{le, word}
 

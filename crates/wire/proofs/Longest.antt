@@ -1,9 +1,9 @@
 -- No longer prefix than the walk's is the UTF-8 of characters.
-use Rattle.std.proofs.Common.{◌≡◌, ℕ, zero, suc, ◌+◌, ◌-◌, ◌*◌, ◌/◌, ◌%◌, ◌<◌, ◌≤◌, Bool, true, false, cond, ◌&&◌, eqb, ltb, leb, ◌⊎◌, List, [], ◌∷◌, ◌++◌, length, take, drop, IsUtf8, sym, refl, ap, ◌∙◌, subst, inl, inr, ⊎_elim, append_assoc, append-nil, arith, length-append, take-append-drop, length-take}
+use Rattle.std.proofs.Common.{◌≡◌, ℕ, suc, ◌+◌, ◌/◌, ◌%◌, ◌<◌, ◌≤◌, Bool, true, false, ◌&&◌, eqb, ltb, ◌⊎◌, List, [], ◌∷◌, ◌++◌, length, take, drop, IsUtf8, sym, refl, ap, ◌∙◌, subst, inl, inr, ⊎_elim, append_assoc, arith, length-append, take-append-drop, length-take}
 use lib.Utf8.{scalar, scalars, next, encode, encodes, scalar_cases}
-use Rattle.std.proofs.lemmas.Bool.Decides.{leb_tells, eqb_tells, nat_tests}
-use Rattle.wire.specs.Utf8.{within, following, least, most, walk, longest_prefix, well_formed}
-use Rattle.wire.proofs.Conds.{cond-true, cond-false, leb_yes, ltb_yes, ltb_no}
+use Rattle.std.proofs.lemmas.Bool.Decides.{eqb_tells}
+use Rattle.wire.specs.Utf8.{within, following, least, most, walk, longest_prefix}
+use Rattle.wire.proofs.Conds.{cond-true, cond-false, ltb_yes}
 use Rattle.wire.proofs.Walk.{free, within_yes}
 use Rattle.wire.proofs.WellFormed.{one, two, three, four, split, Second, lead, following_one, following_two, following_three, onward}
 

@@ -1,15 +1,15 @@
 -- What the law of a kind gives of a row of its values.
-use Rattle.std.proofs.Common.{◌≡◌, ℕ, zero, suc, ◌+◌, ◌*◌, ◌^◌, ◌<◌, ◌≤◌, Bool, true, false, cond, ◌&&◌, T, ltb, List, [], ◌∷◌, ◌++◌, map, length, get_or, drop, Some, None, Option, sym, refl, ap, ◌∙◌, subst, mul-le-mul_right, suc-mul, mul-le-mul_left, arith, length-drop}
+use Rattle.std.proofs.Common.{◌≡◌, ℕ, zero, suc, ◌+◌, ◌*◌, ◌^◌, ◌<◌, ◌≤◌, Bool, true, false, ◌&&◌, T, ltb, List, [], ◌∷◌, ◌++◌, map, length, get_or, drop, Some, None, Option, sym, refl, ap, ◌∙◌, subst, mul-le-mul_right, suc-mul, mul-le-mul_left, arith, length-drop}
 use Rattle.std.specs.List.{AllByRecursion as All}
 use Rattle.std.proofs.lemmas.List.{append_assoc, drop_more, length-append, length-map, length-replicate}
 use Rattle.std.proofs.lemmas.Bool.Decides.{nat_tests}
 use Rattle.wire.specs.Bytes.{zeros}
 use Rattle.wire.specs.Words.{le, word}
 use Rattle.wire.specs.Kind.{Meaning, Law, Points, stands}
-use Rattle.wire.specs.Pushed.{Pushed, Layout, Of, layout, pushed}
+use Rattle.wire.specs.Pushed.{Pushed, Layout, Of, pushed}
 use Rattle.wire.specs.Layouts.{row, all_stand, vector_padding, vector_bytes, vector_space, string_object_bytes, string_space, push_padding, pushed_bytes, pushed_offset, element}
 use Rattle.wire.specs.ReadBack.{Fit, with_vector, ReadsBack}
-use Rattle.wire.proofs.LittleEndian.{length_le, word_back}
+use Rattle.wire.proofs.LittleEndian.{word_back}
 
 and_true : (a b : Bool) → (a && b) ≡ true → (a ≡ true) × (b ≡ true)
 and_true true b e = (refl, e)

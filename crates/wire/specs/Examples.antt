@@ -1,5 +1,5 @@
 -- Worked examples of the definitions, computed from them.
-use Rattle.std.specs.Prelude.{◌≡◌, ℕ, true, false, List, [], ◌∷◌, pos, negsuc, Some, None, Option}
+use Rattle.std.specs.Prelude.{◌≡◌, ℕ, true, false, [], ◌∷◌, pos, negsuc, Some, None}
 use Rattle.std.specs.Float.{nan, fin, binary32, binary64}
 use Rattle.std.specs.Int.{w16, w32}
 use Rattle.wire.specs.Bytes.{last, front, raised, written, unspent, filled}

@@ -1,5 +1,5 @@
 -- How vectors and strings lie in a buffer: what they put in front of so much used space.
-use Rattle.std.specs.Prelude.{ℕ, ◌+◌, ◌-◌, ◌*◌, ◌%◌, max, Bool, true, cond, ◌&&◌, List, [], ◌∷◌, ◌++◌, length, Some, None, Option, nat_lt}
+use Rattle.std.specs.Prelude.{ℕ, ◌+◌, ◌-◌, ◌*◌, ◌%◌, max, Bool, true, cond, ◌&&◌, List, [], ◌∷◌, ◌++◌, length, None, Option, nat_lt}
 use Rattle.wire.specs.Bytes.{zeros}
 use Rattle.wire.specs.Words.{le}
 use Rattle.wire.specs.Kind.{Meaning, stands}

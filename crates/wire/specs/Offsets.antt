@@ -1,5 +1,5 @@
 -- The meaning of offsets.
-use Rattle.std.specs.Prelude.{ℕ, ◌+◌, ◌-◌, Bool, true, cond, List, length, Some, None, Option, ◌==◌, nat_lt}
+use Rattle.std.specs.Prelude.{ℕ, ◌+◌, ◌-◌, true, cond, List, length, Some, None, Option, ◌==◌, nat_lt}
 use Rattle.wire.specs.Words.{le, word, inside}
 use Rattle.wire.specs.Kind.{Meaning}
 

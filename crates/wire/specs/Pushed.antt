@@ -1,5 +1,5 @@
 -- A pushed value without its type, with what its kind's law says of it.
-use Rattle.std.specs.Prelude.{◌≡◌, ℕ, ◌+◌, ◌%◌, ◌<◌, List, [], ◌∷◌, map, length, Option, refl}
+use Rattle.std.specs.Prelude.{◌≡◌, ℕ, ◌%◌, ◌<◌, List, [], ◌∷◌, map, length, Option, refl}
 use Rattle.std.specs.List.{AllByRecursion as All}
 use Rattle.wire.specs.Bytes.{Octets}
 use Rattle.wire.specs.Kind.{Meaning, Law, Alignment, Leads}

@@ -1,11 +1,11 @@
-use Rattle.std.proofs.Common.{◌≡◌, ℕ, ◌+◌, ◌≤◌, max, Bool, true, false, cond, List, ◌++◌, length, Some, Option, sym, refl, ap, ◌∙◌, subst, arith, length-append}
+use Rattle.std.proofs.Common.{◌≡◌, ℕ, ◌+◌, ◌≤◌, true, false, List, length, Some, Option, sym, refl, ap, ◌∙◌, subst, arith, length-append}
 use Rattle.std.specs.Option.{option_map}
-use Rattle.space.specs.Taken.{taken, rest, Placed, Prepended, Spaced}
+use Rattle.space.specs.Taken.{taken, Placed}
 use Rattle.space.proofs.Spaces.{placed_placed, placed_rest, prepended_allowed, prepended_of, prepended_refused}
 use Rattle.wire.specs.Kind.{stands}
 use Rattle.wire.proofs.Decided.{told_done, told_store}
 use Rattle.vectors.proofs.Created.{found_padding, same_value_padding, same_value_space}
-use Rattle.model.specs.Finish.{finish_bytes, finish_head, finish_padding, finish_space, headed, identifier_bytes, identifier_stands, prefix_bytes, rooted}
+use Rattle.model.specs.Finish.{finish_bytes, finish_head, finish_padding, finish_space, identifier_bytes, identifier_stands, prefix_bytes, rooted}
 use Rattle.finish.proofs.Heads.{found_part, length_finish, length_rooted, passed}
 use Rattle.finish.proofs.finish.Goals as goal
 

@@ -1,4 +1,4 @@
-use Rattle.std.proofs.Common.{◌≡◌, List, map, length, sym, refl, ap, ◌∙◌}
+use Rattle.std.proofs.Common.{map, length, sym, ap, ◌∙◌}
 use Rattle.space.specs.Taken.{taken}
 use Rattle.font.specs.Laws.{kern_law}
 use Rattle.font.specs.Structs.{kern}

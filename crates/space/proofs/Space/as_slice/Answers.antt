@@ -1,4 +1,4 @@
-use Rattle.std.proofs.Common.{◌≡◌, ◌-◌, length, ap, ◌∙◌, arith}
+use Rattle.std.proofs.Common.{◌-◌, length, ap, ◌∙◌, arith}
 use Rattle.wire.specs.Bytes.{last}
 use Rattle.wire.proofs.Lists.{part_last}
 use Rattle.space.proofs.Space.as_slice.Goals as goal

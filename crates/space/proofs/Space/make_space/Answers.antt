@@ -1,4 +1,4 @@
-use Rattle.std.proofs.Common.{◌≡◌, ℕ, ◌+◌, leb, length, sym, refl, ap, ◌∙◌, arith}
+use Rattle.std.proofs.Common.{ℕ, ◌+◌, leb, ap, ◌∙◌, arith}
 use Rattle.wire.proofs.Lists.{length_last, length_front, last_grown, front_grown}
 use Rattle.space.proofs.Space.make_space.Goals as goal
 

@@ -1,4 +1,4 @@
-use Rattle.std.proofs.Common.{◌≡◌, ℕ, ◌-◌, true, List, length, sym, refl, ap, ◌∙◌, subst, arith}
+use Rattle.std.proofs.Common.{◌≡◌, ℕ, ◌-◌, true, refl, subst, arith}
 use lib.ListN.{length-replicate}
 use Rattle.wire.specs.Bytes.{zeros}
 use Rattle.wire.proofs.Lists.{length_last, length_front, part_zeros}

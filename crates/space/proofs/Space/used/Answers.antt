@@ -1,5 +1,4 @@
-use Rattle.std.proofs.Common.{◌≡◌, min, length, arith}
-use Rattle.wire.specs.Bytes.{last}
+use Rattle.std.proofs.Common.{arith}
 use Rattle.wire.proofs.Lists.{length_last}
 use Rattle.space.proofs.Space.used.Goals as goal
 

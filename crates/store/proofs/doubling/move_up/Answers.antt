@@ -1,4 +1,4 @@
-use Rattle.std.proofs.Common.{◌≡◌, ◌-◌, length, ◌∙◌, arith, length-append, length-drop, length-take}
+use Rattle.std.proofs.Common.{◌≡◌, length, ◌∙◌, arith, length-append, length-take}
 use Rattle.wire.proofs.Lists.{moved_up}
 use Rattle.store.proofs.doubling.move_up.Goals as goal
 

@@ -1,8 +1,8 @@
-use Rattle.std.proofs.Common.{◌≡◌, ℕ, ◌+◌, ◌≤◌, List, ◌++◌, length, drop, sym, refl, ap, ◌∙◌, arith, length-append}
+use Rattle.std.proofs.Common.{◌≡◌, ℕ, ◌≤◌, List, ◌++◌, length, drop, sym, refl, ap, ◌∙◌, arith, length-append}
 use lib.ListN.{length-replicate}
 use Rattle.std.proofs.lemmas.List.{drop_at}
 use Rattle.model.specs.Tables.{vtable_bytes, vtable_length}
-use Rattle.space.specs.Taken.{taken, rest}
+use Rattle.space.specs.Taken.{taken}
 use Rattle.space.proofs.Spaces.{placed_done}
 use Rattle.wire.specs.Bytes.{zeros}
 use Rattle.wire.specs.Words.{le}

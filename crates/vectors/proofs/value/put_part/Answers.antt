@@ -1,4 +1,4 @@
-use Rattle.std.proofs.Common.{◌≡◌, ℕ, ◌-◌, ◌≤◌, List, [], ◌∷◌, ◌++◌, length, take, drop, refl, subst, arith, length-append, length-take, rules}
+use Rattle.std.proofs.Common.{ℕ, ◌-◌, ◌≤◌, List, ◌++◌, length, drop, subst, arith, length-append, length-take, rules}
 use Rattle.space.specs.Taken.{Placed}
 use Rattle.wire.specs.Bytes.{zeros}
 use Rattle.vectors.proofs.Parts.{part_pushed}

@@ -1,4 +1,4 @@
-use Rattle.std.proofs.Common.{◌≡◌, ℕ, ◌+◌, ◌≤◌, Bool, true, false, not, ltb, leb, List, ◌++◌, length, Ok, Option, sym, refl, ap, ◌∙◌, subst, arith}
+use Rattle.std.proofs.Common.{◌≡◌, ℕ, ◌+◌, ◌≤◌, true, false, not, ltb, leb, length, Ok, Option, sym, refl, ap, ◌∙◌, subst, arith}
 use Rattle.space.specs.Taken.{taken, Spaced}
 use Rattle.wire.specs.declared.refusal.Refusal.TheVariants.{Offset}
 use Rattle.wire.specs.Answers.{space_tests, ◌because◌}

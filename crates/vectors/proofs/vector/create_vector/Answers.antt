@@ -1,11 +1,9 @@
-use Rattle.std.proofs.Common.{◌≡◌, ℕ, ◌+◌, ◌*◌, ◌≤◌, Bool, true, false, ltb, leb, List, ◌++◌, map, length, Ok, sym, refl, ap, ◌∙◌, subst, arith, length-append}
+use Rattle.std.proofs.Common.{◌≡◌, ℕ, ◌*◌, ◌≤◌, true, false, ltb, List, map, length, Ok, sym, refl, ap, ◌∙◌, arith}
 use Rattle.std.proofs.lemmas.List.{length-map}
 use Rattle.std.proofs.lemmas.Bool.{false≢true}
-use Rattle.space.specs.Taken.{taken, Prepended}
-use Rattle.wire.specs.Bytes.{zeros}
-use Rattle.wire.specs.Layouts.{all_stand, row, vector_bytes, vector_offset, vector_padding, vector_space}
-use Rattle.wire.specs.Pushed.{Pushed, Layout, layout, pushed, all_of}
-use Rattle.wire.specs.Words.{le}
+use Rattle.space.specs.Taken.{taken}
+use Rattle.wire.specs.Layouts.{all_stand, vector_offset}
+use Rattle.wire.specs.Pushed.{Pushed, layout, pushed, all_of}
 use Rattle.wire.proofs.Rows.{length_vector}
 use Rattle.space.proofs.Spaces.{prepended_allowed, prepended_used}
 use Rattle.vectors.proofs.Created.{too_long, found_padding, same_space, same_padding, vector_long, vector_store, vector_done, vector_written}

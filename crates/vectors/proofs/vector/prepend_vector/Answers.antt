@@ -1,7 +1,7 @@
-use Rattle.std.proofs.Common.{◌≡◌, ℕ, ◌+◌, ◌*◌, ◌≤◌, true, List, ◌++◌, map, length, sym, refl, ap, ◌∙◌, subst, mul-le-mul_left, arith, length-append}
+use Rattle.std.proofs.Common.{◌≡◌, ℕ, ◌+◌, ◌*◌, true, List, ◌++◌, map, length, refl, ap, ◌∙◌, subst, mul-le-mul_left, arith, length-append}
 use lib.ListN.{length-replicate}
 use Rattle.std.proofs.lemmas.Result.{err_from_is_err_and}
-use Rattle.space.specs.Taken.{rest, taken, Placed}
+use Rattle.space.specs.Taken.{taken, Placed}
 use Rattle.space.proofs.Spaces.{placed_done, placed_placed, placed_rest, prepended_of, prepended_refused}
 use Rattle.wire.specs.Bytes.{zeros}
 use Rattle.wire.specs.Layouts.{row}

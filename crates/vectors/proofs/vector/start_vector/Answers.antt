@@ -1,4 +1,4 @@
-use Rattle.std.proofs.Common.{◌≡◌, ℕ, ◌+◌, ◌*◌, ◌≤◌, true, false, length, sym, refl, ap, ◌∙◌, subst, arith}
+use Rattle.std.proofs.Common.{◌≡◌, ℕ, ◌+◌, ◌*◌, ◌≤◌, true, false, length, sym, refl, ◌∙◌, subst, arith}
 use lib.ListN.{length-replicate}
 use Rattle.space.specs.Taken.{taken, Prepended}
 use Rattle.space.proofs.Spaces.{prepended_allowed}

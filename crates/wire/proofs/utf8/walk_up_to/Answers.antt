@@ -1,5 +1,5 @@
-use Rattle.std.proofs.Common.{◌≡◌, ℕ, ◌<◌, ◌⊎◌, length, get_or, sym, refl, ◌∙◌, inl, inr, ⊎_elim, arith}
-use Rattle.wire.specs.Utf8.{following, least, most, longest_prefix}
+use Rattle.std.proofs.Common.{◌≡◌, ◌<◌, length, get_or, sym, refl, ◌∙◌, inl, inr, ⊎_elim, arith}
+use Rattle.wire.specs.Utf8.{following, longest_prefix}
 use Rattle.wire.proofs.Walk.{step_ascii, step_lead, stop_lead, step_more, stop_more, end_between, end_within}
 use Rattle.wire.proofs.utf8.walk_up_to.Goals as goal
 use Rattle.wire.proofs.utf8.walk_up_to.Goals.{then-more-gt0+else-b-lo+else-hi-b, else-more-gt0+then-b-ge128+else-more-eq0, else-more-gt0+else-b-ge128}

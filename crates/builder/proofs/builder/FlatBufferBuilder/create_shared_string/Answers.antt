@@ -1,10 +1,9 @@
-use Rattle.std.proofs.Common.{◌≡◌, ℕ, ◌+◌, ◌≤◌, max, Bool, true, false, cond, not, leb, List, [], ◌∷◌, ◌++◌, length, Some, None, Ok, Err, Option, sym, refl, ap, ◌∙◌, subst, arith, lit<}
+use Rattle.std.proofs.Common.{◌≡◌, ℕ, ◌+◌, true, false, not, [], ◌∷◌, ◌++◌, length, Some, None, Ok, Option, sym, refl, ap, ◌∙◌, subst, arith, lit<}
 use Rattle.std.proofs.lemmas.Result.{err_from_is_err_and}
 use Rattle.std.proofs.lemmas.Bool.{le-leb, lt-leb}
-use Rattle.space.specs.Taken.{taken, Fronted, Prepended, Spaced}
+use Rattle.space.specs.Taken.{Fronted, Prepended, Spaced}
 use Rattle.space.proofs.Spaces.{fronted_same, parts_length, prepended_refused, prepended_used}
 use Rattle.model.specs.Calls.{Call, Reply, at}
-use Rattle.model.specs.State.{State}
 use Rattle.model.specs.Steps.{effect, is_open, needs, pooled, reply, shared, shared_needs, shared_reply, shared_tests, tests}
 use Rattle.model.specs.Tables.{no_room}
 use Rattle.tables.specs.Fields.{fields, offsets}

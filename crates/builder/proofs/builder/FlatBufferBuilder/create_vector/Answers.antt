@@ -1,23 +1,15 @@
-use Rattle.std.proofs.Common.{◌≡◌, ℕ, ◌+◌, ◌*◌, ◌≤◌, max, Bool, true, false, not, List, [], ◌∷◌, ◌++◌, map, length, sym, refl, ap, ◌∙◌, arith, lit<}
-use lib.ListN.{length-replicate}
+use Rattle.std.proofs.Common.{ℕ, max, not, List, map, length, refl, ap, ◌∙◌, arith, lit<}
 use Rattle.std.proofs.lemmas.Result.{err_from_is_err_and}
-use Rattle.space.specs.Taken.{taken}
 use Rattle.space.proofs.Spaces.{prepended_used}
-use Rattle.model.specs.Calls.{Call, Reply, at, done}
-use Rattle.model.specs.State.{State}
-use Rattle.model.specs.Steps.{is_open}
-use Rattle.wire.specs.declared.refusal.Refusal.TheVariants.{Finished, Nested, Offset, Text}
-use Rattle.wire.specs.Answers.{Test, decided, space_tests, string_tests, vector_tests, start_vector_tests, too_much, above, ◌because◌}
-use Rattle.wire.specs.Layouts.{all_stand, start_space, string_object_bytes, string_space, vector_bytes, vector_offset, vector_padding, vector_space}
+use Rattle.model.specs.Calls.{Call, at}
+use Rattle.wire.specs.declared.refusal.Refusal.TheVariants.{Finished, Offset}
+use Rattle.wire.specs.Answers.{space_tests, vector_tests, ◌because◌}
+use Rattle.wire.specs.Layouts.{all_stand, vector_bytes, vector_offset}
 use Rattle.wire.specs.Pushed.{Pushed, Layout, all_of, layout, pushed}
-use Rattle.wire.specs.Utf8.{well_formed}
-use Rattle.wire.specs.Bytes.{zeros}
 use Rattle.wire.proofs.Decided.{decided_ok, decided_pass, passed_on, space_low}
-use Rattle.wire.proofs.Rows.{length_string, length_vector}
-use Rattle.tables.specs.Fields.{fields}
-use Rattle.builder.specs.declared.inner.Open.{Open}
-use Rattle.builder.specs.View.{nest_of, view}
-use Rattle.builder.proofs.Wrapped.{did_done, did_refused, pass_two, pass_three, taken_short, wrote_is}
+use Rattle.wire.proofs.Rows.{length_vector}
+use Rattle.builder.specs.View.{view}
+use Rattle.builder.proofs.Wrapped.{did_done, did_refused, wrote_is}
 use Rattle.builder.proofs.builder.FlatBufferBuilder.create_vector.Goals as goal
 
 pub returns-in_err-off : goal.returns-in_err-off

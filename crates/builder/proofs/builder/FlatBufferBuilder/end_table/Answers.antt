@@ -1,14 +1,12 @@
-use Rattle.std.proofs.Common.{◌≡◌, ℕ, ◌+◌, ◌-◌, ◌≤◌, max, Bool, true, false, cond, not, ◌&&◌, eqb, ltb, leb, List, [], ◌∷◌, ◌++◌, length, is_some, Ok, Err, Option, sym, refl, ap, ◌∙◌, subst, arith, length-append}
+use Rattle.std.proofs.Common.{◌≡◌, ℕ, ◌+◌, ◌-◌, false, not, ◌&&◌, eqb, ltb, leb, List, [], ◌∷◌, length, is_some, sym, refl, ap, ◌∙◌, subst, arith, length-append}
 use Rattle.std.proofs.lemmas.Result.{err_from_is_err_and}
 use Rattle.std.proofs.lemmas.Bool.{eq-eqb}
-use Rattle.space.specs.Taken.{taken, Fronted}
+use Rattle.space.specs.Taken.{Fronted}
 use Rattle.model.specs.Calls.{Call, Reply, at}
-use Rattle.model.specs.State.{Nest, State}
-use Rattle.model.specs.Steps.{answered, effect, end_table_tests, ends_table, kept, needs, returns, table_needs, tests}
+use Rattle.model.specs.Steps.{effect, end_table_tests, ends_table, table_needs, tests}
 use Rattle.model.specs.Tables.{equal_object, no_room, table_bytes, table_offset, table_space, table_tests, table_vtable}
-use Rattle.tables.specs.Fields.{fields, offsets}
-use Rattle.wire.specs.declared.refusal.Refusal.{Refusal}
-use Rattle.wire.specs.declared.refusal.Refusal.TheVariants.{Finished, Full, NotOpen, TableTooLarge}
+use Rattle.tables.specs.Fields.{fields}
+use Rattle.wire.specs.declared.refusal.Refusal.TheVariants.{Full, NotOpen, TableTooLarge}
 use Rattle.wire.specs.Answers.{Test, Where, above, decided, number, too_much, ◌because◌}
 use Rattle.wire.proofs.Decided.{decided_err, passed_on, tests_low}
 use Rattle.builder.specs.declared.inner.Open.{Open}

@@ -1,12 +1,11 @@
-use Rattle.std.proofs.Common.{◌≡◌, ℕ, ◌≤◌, max, not, length, sym, refl, ap, ◌∙◌, arith, lit<}
+use Rattle.std.proofs.Common.{max, not, length, refl, ap, ◌∙◌, arith, lit<}
 use Rattle.std.proofs.lemmas.Result.{err_from_is_err_and}
-use Rattle.space.specs.Taken.{taken}
 use Rattle.space.proofs.Spaces.{prepended_used}
 use Rattle.model.specs.Calls.{Call, at}
 use Rattle.wire.specs.declared.refusal.Refusal.TheVariants.{Finished, Offset}
 use Rattle.wire.specs.Answers.{push_tests, space_tests, ◌because◌}
 use Rattle.wire.specs.Kind.{stands}
-use Rattle.wire.specs.Layouts.{push_padding, pushed_bytes, pushed_offset}
+use Rattle.wire.specs.Layouts.{pushed_bytes, pushed_offset}
 use Rattle.wire.specs.Pushed.{Pushed, pushed}
 use Rattle.wire.proofs.Decided.{decided_ok, decided_pass, passed_on, space_low}
 use Rattle.wire.proofs.Rows.{length_pushed}

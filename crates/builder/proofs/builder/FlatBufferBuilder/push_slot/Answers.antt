@@ -1,13 +1,12 @@
-use Rattle.std.proofs.Common.{◌≡◌, ℕ, ◌≤◌, Bool, true, false, cond, not, ◌||◌, List, [], ◌∷◌, ◌++◌, length, Ok, Option, sym, refl, ap, ◌∙◌, subst, arith}
+use Rattle.std.proofs.Common.{◌≡◌, ℕ, Bool, false, cond, not, ◌||◌, [], ◌∷◌, length, Ok, Option, sym, ap, ◌∙◌, subst, arith}
 use Rattle.space.specs.Taken.{Fronted}
 use Rattle.space.proofs.Spaces.{fronted_same, parts_length}
-use Rattle.model.specs.Calls.{Call, Reply, done}
-use Rattle.model.specs.State.{State}
-use Rattle.model.specs.Steps.{in_table, record_tests, slot_tests, slotted, tests}
+use Rattle.model.specs.Calls.{Call, done}
+use Rattle.model.specs.Steps.{in_table, record_tests, slotted, tests}
 use Rattle.model.specs.Tables.{slot_stands}
 use Rattle.tables.specs.Fields.{fields}
 use Rattle.wire.specs.declared.refusal.Refusal.TheVariants.{NotOpen, Offset, Slot}
-use Rattle.wire.specs.Answers.{Test, decided, ◌because◌}
+use Rattle.wire.specs.Answers.{decided, ◌because◌}
 use Rattle.wire.specs.Kind.{stands}
 use Rattle.wire.specs.Layouts.{pushed_offset}
 use Rattle.wire.specs.Pushed.{Pushed, pushed}

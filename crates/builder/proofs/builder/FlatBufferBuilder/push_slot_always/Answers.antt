@@ -1,12 +1,12 @@
-use Rattle.std.proofs.Common.{◌≡◌, ℕ, ◌+◌, ◌≤◌, max, Bool, true, false, not, ◌&&◌, List, [], ◌∷◌, ◌++◌, length, is_some, Ok, Err, sym, refl, ap, ◌∙◌, arith, lit<}
+use Rattle.std.proofs.Common.{◌≡◌, ℕ, ◌+◌, max, true, false, not, ◌&&◌, [], ◌∷◌, ◌++◌, length, is_some, sym, refl, ap, ◌∙◌, arith, lit<}
 use Rattle.std.proofs.lemmas.Result.{err_from_is_err_and}
-use Rattle.space.specs.Taken.{taken, Prepended, Spaced}
+use Rattle.space.specs.Taken.{Prepended, Spaced}
 use Rattle.space.proofs.Spaces.{prepended_refused, prepended_used}
 use Rattle.model.specs.Calls.{Call, Reply, done}
 use Rattle.model.specs.Steps.{full_test, in_table, tests}
 use Rattle.model.specs.Tables.{lookup, no_room, record_slot, slot_stands}
 use Rattle.tables.specs.Fields.{fields}
-use Rattle.wire.specs.declared.refusal.Refusal.TheVariants.{Full, NotOpen, Offset, Slot}
+use Rattle.wire.specs.declared.refusal.Refusal.TheVariants.{NotOpen, Offset, Slot}
 use Rattle.wire.specs.Answers.{decided, push_tests, space_tests, ◌because◌}
 use Rattle.wire.specs.Kind.{stands}
 use Rattle.wire.specs.Layouts.{push_padding, pushed_bytes, pushed_offset}

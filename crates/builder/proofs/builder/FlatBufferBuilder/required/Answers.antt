@@ -1,4 +1,4 @@
-use Rattle.std.proofs.Common.{◌≡◌, arith}
+use Rattle.std.proofs.Common.{arith}
 use Rattle.builder.proofs.Wrapped.{taken_short}
 use Rattle.builder.proofs.builder.FlatBufferBuilder.required.Goals as goal
 

@@ -1,6 +1,5 @@
-use Rattle.std.proofs.Common.{◌≡◌, ℕ, Bool, true, false, cond, List, [], ◌∷◌, length, Ok, sym, refl, ap, ◌∙◌, arith}
+use Rattle.std.proofs.Common.{◌≡◌, ℕ, false, List, [], ◌∷◌, length, Ok, sym, ap, ◌∙◌, arith}
 use Rattle.space.proofs.Spaces.{fronted_same, parts_length}
-use Rattle.space.specs.Taken.{taken}
 use Rattle.model.specs.declared.field_loc.FieldLoc.{FieldLoc}
 use Rattle.model.specs.Calls.{at}
 use Rattle.model.specs.State.{State, table}

@@ -1,4 +1,4 @@
-use Rattle.std.proofs.Common.{◌≡◌, leb, length, take, sym, refl, ap, ◌∙◌, arith, length-drop, length-take}
+use Rattle.std.proofs.Common.{◌≡◌, leb, length, take, sym, refl, ap, ◌∙◌, arith, length-take}
 use Rattle.std.proofs.lemmas.Bool.{leb-true}
 use Rattle.wire.proofs.Lists.{length_put_mid, take_put_mid}
 use Rattle.store.proofs.doubling.DoublingAllocator.put.Goals as goal

@@ -1,4 +1,4 @@
-use Rattle.std.proofs.Common.{◌≡◌, arith, length-take}
+use Rattle.std.proofs.Common.{arith, length-take}
 use Rattle.wire.proofs.Lists.{take_short}
 use Rattle.store.proofs.doubling.DoublingContiguous.as_slice.Goals as goal
 

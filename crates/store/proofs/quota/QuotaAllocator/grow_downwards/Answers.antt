@@ -1,4 +1,4 @@
-use Rattle.std.proofs.Common.{◌≡◌, ◌<◌, ◌≤◌, min, length, sym, refl, ap, ◌∙◌, arith}
+use Rattle.std.proofs.Common.{◌≡◌, ◌<◌, min, length, sym, refl, ap, arith}
 use Rattle.std.proofs.lemmas.Bool.{le-leb, lt-leb, true≢false, false≢true}
 use Rattle.wire.specs.Bytes.{last}
 use Rattle.wire.proofs.Lists.{length_last, raised_none, grown_below}

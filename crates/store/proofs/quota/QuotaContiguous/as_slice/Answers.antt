@@ -1,4 +1,4 @@
-use Rattle.std.proofs.Common.{◌≡◌, ◌-◌, length, ap, ◌∙◌, arith}
+use Rattle.std.proofs.Common.{◌-◌, length, ap, ◌∙◌, arith}
 use Rattle.wire.specs.Bytes.{last}
 use Rattle.wire.proofs.Lists.{part_last}
 use Rattle.store.proofs.quota.QuotaContiguous.as_slice.Goals as goal

@@ -1,6 +1,4 @@
 use Rattle.std.proofs.Common.{◌≡◌, ◌+◌, ◌-◌, length, sym, refl, ◌∙◌, arith, length-drop, length-take}
-use borrow.Rule.Slice.PartMut.{mid_of}
-use lib.ListN.{length-replicate}
 use Rattle.std.proofs.lemmas.Bool.{true≢false, false≢true}
 use Rattle.wire.proofs.Lists.{length_last_le, length_put_mid, longer, raised_none, raised_is, last_zeroed}
 use Rattle.store.proofs.still.StillAllocator.grow_downwards.Goals as goal

@@ -1,4 +1,4 @@
-use Rattle.std.proofs.Common.{◌≡◌, ◌+◌, ◌≤◌, leb, length, sym, refl, ap, ◌∙◌, arith, length-drop, length-take}
+use Rattle.std.proofs.Common.{◌≡◌, leb, length, sym, refl, ap, ◌∙◌, arith, length-drop, length-take}
 use Rattle.std.proofs.lemmas.Bool.{leb-true}
 use Rattle.wire.proofs.Lists.{length_last_le, length_put_mid, last_put_mid}
 use Rattle.store.proofs.still.StillAllocator.put.Goals as goal

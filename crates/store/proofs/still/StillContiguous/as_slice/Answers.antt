@@ -1,4 +1,4 @@
-use Rattle.std.proofs.Common.{◌≡◌, ◌-◌, length, sym, ap, ◌∙◌, arith}
+use Rattle.std.proofs.Common.{◌≡◌, ◌-◌, length, arith}
 use Rattle.wire.proofs.Lists.{part_last}
 use Rattle.store.proofs.still.StillContiguous.as_slice.Goals as goal
 
