@@ -5,7 +5,7 @@ use Rattle.space.specs.Taken.{taken, Prepended, Fronted, Spaced}
 use Rattle.space.specs.declared.Space.{Space}
 use Rattle.store.specs.declared.allocator.Allocator.{Ghosts}
 use Rattle.space.proofs.Spaces.{fronted_done, fronted_refused, fronted_spaced}
-use Rattle.std.specs.List.{AllByRecursion as All}
+use Rattle.std.specs.List.{AllByRecursion}
 use Rattle.std.proofs.lemmas.Bool.{eq-eqb, leb-true}
 use Rattle.wire.specs.declared.refusal.Refusal.{Refusal}
 use Rattle.wire.specs.declared.refusal.Refusal.TheVariants.{Finished, NotFinished, Nested, NotOpen, Slot, Identifier, Offset, Text, TableTooLarge, MissingSlot, TooLong, Store, Full}
@@ -173,7 +173,7 @@ number_erased Full = refl
 
 -- tests of which none tells of a full table
 abbrev pub NotFull : List Test → Type 0
-NotFull ts = All (λ t. number t.why < 13) ts
+NotFull ts = AllByRecursion (λ t. number t.why < 13) ts
 
 pub told_few : {A : Type 0} (w : Why) (ts : List Test) (x : A) → NotFull ts → Err w ≡ decided ts x → number w < 13
 told_few w [] x few e = let z : ◌≡◌ {A = ℕ} 0 1 = cc in absurd (omega arith)

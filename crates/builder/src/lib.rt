@@ -3,7 +3,7 @@
 
 pub mod builder;
 pub mod data;
-pub mod finish;
+pub mod finishing;
 pub mod inner;
 pub mod push;
 pub mod required;

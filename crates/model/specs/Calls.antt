@@ -1,6 +1,6 @@
 -- The calls of a builder, and what they reply.
 use Rattle.std.specs.Prelude.{ℕ, Bool, List, Ok, Err, Option, Result}
-use Rattle.std.specs.List.{AllByRecursion as All}
+use Rattle.std.specs.List.{AllByRecursion}
 use Rattle.wire.specs.declared.refusal.Refusal.{Refusal}
 use Rattle.wire.specs.Answers.{Why, erased}
 use Rattle.wire.specs.Pushed.{Pushed, Layout, Of}
@@ -14,7 +14,7 @@ pub data Call : Type 0 where
   end_table : (start : ℕ) → Call
   start_vector : (kind : Layout) (count : ℕ) → Call
   end_vector : (count : ℕ) → Call
-  create_vector : (kind : Layout) (items : List Pushed) → All (Of kind) items → Call
+  create_vector : (kind : Layout) (items : List Pushed) → AllByRecursion (Of kind) items → Call
   create_byte_string : List ℕ → Call
   create_string : List ℕ → Call
   create_shared_string : List ℕ → Call

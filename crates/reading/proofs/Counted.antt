@@ -1,17 +1,17 @@
 -- What a reading that accepts has counted, by induction on shapes.
-use Rattle.std.proofs.Common.{◌≡◌, ℕ, zero, suc, ◌+◌, ◌-◌, ◌*◌, ◌^◌, ◌<◌, ◌≤◌, min, max, Bool, true, false, cond, ◌||◌, eqb, ltb, leb, List, [], ◌∷◌, ◌++◌, length, get_or, Some, None, Option, sym, refl, ap, ◌∙◌, subst, arith, w32, to_z}
-use Rattle.std.proofs.lemmas.Bool.{leb-true, ltb-true, cond-true}
+use Rattle.std.proofs.Common.{◌≡◌, ℕ, zero, suc, ◌+◌, ◌-◌, ◌*◌, ◌^◌, ◌<◌, ◌≤◌, max, Bool, true, false, cond, eqb, ltb, leb, List, [], ◌∷◌, ◌++◌, length, get_or, Some, None, Option, sym, refl, ap, ◌∙◌, arith, w32, to_z}
+use Rattle.std.proofs.lemmas.Bool.{leb-true}
 use Rattle.reading.specs.declared.options.Counters.{Counters}
 use Rattle.reading.specs.declared.options.VerifierOptions.{VerifierOptions}
 use Rattle.reading.specs.declared.invalid.TraceRecord.{TraceRecord}
 use Rattle.reading.specs.declared.invalid.TraceRecord.TheVariants.{VectorElement, TableField, UnionVariant}
 use Rattle.reading.specs.declared.invalid.InvalidFlatbuffer.{InvalidFlatbuffer}
-use Rattle.reading.specs.declared.invalid.InvalidFlatbuffer.TheVariants.{Unaligned, RangeOutOfBounds, ApparentSizeTooLarge, SignedOffsetOutOfBounds, TooManyTables, DepthLimitReached, MissingRequiredField, InconsistentUnion, MissingNullTerminator}
+use Rattle.reading.specs.declared.invalid.InvalidFlatbuffer.TheVariants.{Unaligned, RangeOutOfBounds, ApparentSizeTooLarge, SignedOffsetOutOfBounds, TooManyTables, DepthLimitReached, MissingRequiredField, InconsistentUnion}
 use Rattle.reading.specs.Shape.{Shape, Fields, Variants, element, string, vector, offsets, offset, skipped, table, end, field, union, unread, variant}
-use Rattle.reading.specs.Input.{saturated, saturated_product, u16_at, u32_at}
-use Rattle.reading.specs.Reading.{Outcome, accepted, refused, Range, Reading, Walk, then, given, within, risen, limit, unless, raised, keeps, after, continue, accept, refuse, aligned, ranged, spend, in_buffer, count_table, descend, ascend, signed, leads, present, enter, at_vtable, visit_table, vtable, vtable_len, slot_at, slot_read, absent, at_field, visit_field, follow, items, vector_range, each, element_at, visit_offsets, visit_string, zero_at, text_of, terminated, lone_key, union_key, at_union, visit_union, reading, fields, variants}
+use Rattle.reading.specs.Input.{saturated, saturated_product, u32_at}
+use Rattle.reading.specs.Reading.{Outcome, accepted, refused, Range, Reading, Walk, then, given, within, risen, limit, unless, raised, keeps, after, continue, accept, refuse, aligned, ranged, spend, in_buffer, count_table, descend, ascend, signed, leads, present, enter, at_vtable, visit_table, vtable, vtable_len, slot_at, slot_read, absent, at_field, visit_field, follow, items, vector_range, each, element_at, visit_offsets, visit_string, text_of, terminated, lone_key, union_key, at_union, visit_union, reading, fields, variants}
 use Rattle.wire.specs.Places.{led}
-use Rattle.reading.specs.Counts.{Counts, nothing, read, both, nested, when_present, each_counts, slot_counts, union_counts, follow_counts, counts, fields_counts, variant_counts, Allows, total, from, Counted, EveryShapeCounts}
+use Rattle.reading.specs.Counts.{Counts, nothing, read, both, nested, when_present, each_counts, slot_counts, union_counts, follow_counts, counts, fields_counts, variant_counts, total, EveryShapeCounts}
 
 apart : (f : InvalidFlatbuffer) (t : List TraceRecord) → refused f t ≡ accepted → ⊥
 apart f t e = let z : ◌≡◌ {A = ℕ} 0 1 = cc in omega arith

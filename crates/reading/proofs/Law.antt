@@ -1,5 +1,5 @@
 -- The law, by induction on shapes.
-use Rattle.std.proofs.Common.{◌≡◌, ℕ, zero, suc, ◌+◌, ◌*◌, ◌^◌, ◌<◌, ◌≤◌, Bool, true, false, cond, eqb, ltb, List, [], ◌∷◌, ◌++◌, length, get_or, IfOk, Some, None, Ok, Err, Option, Result, sym, refl, ap, ◌∙◌, subst, arith, w32, to_z}
+use Rattle.std.proofs.Common.{◌≡◌, ℕ, zero, suc, ◌+◌, ◌*◌, ◌^◌, ◌<◌, Bool, true, false, cond, eqb, ltb, List, [], ◌∷◌, ◌++◌, length, get_or, IfOk, Some, None, Option, Result, sym, refl, ap, ◌∙◌, subst, arith, w32, to_z}
 use Rattle.reading.specs.Outcomes.{answer}
 use Rattle.reading.specs.declared.options.Counters.{Counters}
 use Rattle.reading.specs.declared.options.VerifierOptions.{VerifierOptions}
@@ -8,10 +8,9 @@ use Rattle.reading.specs.declared.invalid.TraceRecord.TheVariants.{VectorElement
 use Rattle.reading.specs.declared.invalid.InvalidFlatbuffer.{InvalidFlatbuffer}
 use Rattle.reading.specs.declared.invalid.InvalidFlatbuffer.TheVariants.{Unaligned, RangeOutOfBounds, SignedOffsetOutOfBounds, MissingRequiredField, InconsistentUnion}
 use Rattle.reading.specs.Shape.{Shape, Fields, Variants, element, string, vector, offsets, offset, skipped, table, end, field, union, unread, variant}
-use Rattle.reading.specs.Input.{saturated, saturated_product, u16_at, u32_at}
-use Rattle.reading.specs.Reading.{Outcome, accepted, refused, Range, Reading, Walk, then, given, within, risen, limit, after, continue, accept, refuse, aligned, ranged, spend, in_buffer, count_table, descend, ascend, signed, leads, present, enter, at_vtable, visit_table, vtable, vtable_len, slot_at, slot_read, absent, at_field, visit_field, follow, items, vector_range, each, element_at, visit_offsets, visit_string, text_of, terminated, root, size_prefixed_root, lone_key, union_key, at_union, visit_union, reading, fields, variants}
-use Rattle.wire.specs.Places.{led}
-use Rattle.reading.specs.Law.{Inside, AcceptedLiesInside, EveryShapeLiesInside}
+use Rattle.reading.specs.Input.{saturated, saturated_product, u32_at}
+use Rattle.reading.specs.Reading.{Outcome, accepted, refused, Range, Reading, Walk, then, given, within, risen, limit, accept, refuse, aligned, ranged, spend, in_buffer, count_table, descend, ascend, signed, leads, enter, at_vtable, visit_table, vtable, vtable_len, slot_at, slot_read, absent, at_field, visit_field, follow, items, vector_range, each, element_at, visit_offsets, visit_string, text_of, terminated, root, size_prefixed_root, lone_key, union_key, at_union, visit_union, reading, fields, variants}
+use Rattle.reading.specs.Law.{Inside, EveryShapeLiesInside}
 use Rattle.reading.proofs.Walks.{then_accepted, then_refused, ranged_fits, reach}
 
 apart : (f : InvalidFlatbuffer) (t : List TraceRecord) → refused f t ≡ accepted → ⊥

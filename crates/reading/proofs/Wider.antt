@@ -1,5 +1,5 @@
 -- Wider limits read the same, by induction on shapes.
-use Rattle.std.proofs.Common.{◌≡◌, ℕ, zero, suc, ◌+◌, ◌*◌, ◌^◌, ◌<◌, ◌≤◌, Bool, true, false, cond, ◌||◌, eqb, ltb, leb, List, [], ◌∷◌, ◌++◌, length, get_or, Some, None, Ok, Err, Option, Result, sym, refl, ap, ◌∙◌, subst, arith, w32, to_z}
+use Rattle.std.proofs.Common.{◌≡◌, ℕ, zero, suc, ◌+◌, ◌*◌, ◌≤◌, Bool, true, false, cond, ◌||◌, eqb, ltb, leb, List, [], ◌∷◌, ◌++◌, length, get_or, Some, None, Option, sym, refl, ap, ◌∙◌, arith, w32, to_z}
 use Rattle.std.proofs.lemmas.Bool.{leb-true, le-leb}
 use Rattle.reading.specs.declared.options.Counters.{Counters}
 use Rattle.reading.specs.declared.options.VerifierOptions.{VerifierOptions}
@@ -8,9 +8,8 @@ use Rattle.reading.specs.declared.invalid.TraceRecord.TheVariants.{VectorElement
 use Rattle.reading.specs.declared.invalid.InvalidFlatbuffer.{InvalidFlatbuffer}
 use Rattle.reading.specs.declared.invalid.InvalidFlatbuffer.TheVariants.{Unaligned, RangeOutOfBounds, SignedOffsetOutOfBounds, ApparentSizeTooLarge, TooManyTables, DepthLimitReached, MissingNullTerminator, MissingRequiredField, InconsistentUnion}
 use Rattle.reading.specs.Shape.{Shape, Fields, Variants, element, string, vector, offsets, offset, skipped, table, end, field, union, unread, variant}
-use Rattle.reading.specs.Input.{saturated, saturated_product, u16_at, u32_at}
-use Rattle.reading.specs.Reading.{Outcome, accepted, refused, Range, Reading, Walk, then, given, within, risen, limit, after, continue, accept, refuse, keeps, raised, unless, halted, with_size, with_tables, with_depth, zero_at, aligned, ranged, spend, in_buffer, count_table, descend, ascend, signed, leads, present, enter, at_vtable, visit_table, vtable, vtable_len, slot_at, slot_read, absent, at_field, visit_field, follow, items, vector_range, each, element_at, visit_offsets, visit_string, text_of, terminated, root, size_prefixed_root, lone_key, union_key, at_union, visit_union, reading, fields, variants}
-use Rattle.wire.specs.Places.{led}
+use Rattle.reading.specs.Input.{saturated, saturated_product, u32_at}
+use Rattle.reading.specs.Reading.{Outcome, accepted, refused, Reading, Walk, then, given, within, risen, limit, after, accept, refuse, keeps, raised, unless, halted, with_size, with_tables, with_depth, zero_at, aligned, ranged, spend, in_buffer, count_table, descend, ascend, signed, leads, enter, at_vtable, visit_table, vtable, vtable_len, slot_at, slot_read, absent, at_field, visit_field, follow, items, vector_range, each, element_at, visit_offsets, visit_string, text_of, terminated, lone_key, union_key, at_union, visit_union, reading, fields, variants}
 use Rattle.reading.specs.Wider.{Wider, stopped, WiderLimitsReadTheSame}
 use Rattle.reading.proofs.Walks.{then_accepted, then_refused}
 

@@ -1,9 +1,9 @@
 -- What the reading of an input counts where nothing stops it: whole numbers, with no largest one.
-use Rattle.std.specs.Prelude.{◌≡◌, ℕ, zero, suc, ◌+◌, ◌*◌, ◌^◌, ◌<◌, ◌≤◌, max, Bool, cond, List, [], ◌∷◌, length, Some, None, Option, ◌==◌, nat_lt, slice_index}
+use Rattle.std.specs.Prelude.{◌≡◌, ℕ, zero, suc, ◌+◌, ◌*◌, ◌^◌, ◌<◌, ◌≤◌, max, cond, List, [], ◌∷◌, length, Some, None, Option, ◌==◌, nat_lt, slice_index}
 use Rattle.reading.specs.declared.options.VerifierOptions.{VerifierOptions}
 use Rattle.reading.specs.declared.options.Counters.{Counters}
 use Rattle.reading.specs.Shape.{Shape, Fields, Variants, element, string, vector, offsets, offset, skipped, table, end, field, union, unread, variant}
-use Rattle.reading.specs.Input.{saturated, u16_at, u32_at}
+use Rattle.reading.specs.Input.{saturated, u32_at}
 use Rattle.reading.specs.Reading.{Range, Reading, accepted, vtable_len, slot_at, reading}
 
 -- The greatest depth, the tables, and the sizes of the ranges summed over each time they are read.

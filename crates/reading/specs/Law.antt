@@ -3,7 +3,7 @@ use Rattle.std.specs.Prelude.{◌≡◌, ℕ, ◌+◌, ◌^◌, ◌<◌, ◌≤�
 use Rattle.reading.specs.declared.options.Counters.{Counters}
 use Rattle.reading.specs.declared.options.VerifierOptions.{VerifierOptions}
 use Rattle.reading.specs.Shape.{Shape}
-use Rattle.reading.specs.Reading.{Range, Reading, accepted, reading}
+use Rattle.reading.specs.Reading.{Range, accepted, reading}
 
 abbrev pub Inside : List ℕ → List Range → Type 0
 Inside b [] = Unit {0}

@@ -1,18 +1,18 @@
 -- What the calls of a table's walk read.
-use Rattle.std.proofs.Common.{◌≡◌, ℕ, ◌<◌, ◌≤◌, Bool, true, false, cond, eqb, ltb, List, get_or, ℤ, IsErrAnd, Some, None, Ok, Err, Option, Result, sym, refl, ap, ◌∙◌, subst, w32, to_z}
+use Rattle.std.proofs.Common.{◌≡◌, ℕ, ◌<◌, ◌≤◌, Bool, true, false, cond, eqb, ltb, List, get_or, ℤ, IsErrAnd, Some, None, Ok, Err, Option, Result, sym, ap, ◌∙◌, w32, to_z}
 use Rattle.std.proofs.lemmas.Bool.{lt-ltb, le-ltb, eq-eqb, ne_eqb}
 use Rattle.verifier.specs.declared.verifier.Verifier.{Verifier}
 use Rattle.reading.specs.declared.invalid.InvalidFlatbuffer.{InvalidFlatbuffer}
 use Rattle.reading.specs.declared.invalid.InvalidFlatbuffer.TheVariants.{SignedOffsetOutOfBounds}
 use Rattle.verifier.specs.declared.verifier.TableVerifier.{TableVerifier}
 use Rattle.reading.specs.Input.{saturated, u16_at, u32_at}
-use Rattle.reading.specs.Reading.{Walk, leads, present, position, accept, refuse, vtable, vtable_len, given, at_vtable, slot_of, slot_read_of, in_buffer, at_union, visit_union_of, then, union_key, lone_key, absent, within}
+use Rattle.reading.specs.Reading.{Walk, leads, present, position, accept, refuse, vtable, vtable_len, given, at_vtable, slot_of, slot_read_of, in_buffer, at_union, visit_union_of, union_key, lone_key, absent, within}
 use Rattle.wire.specs.Places.{led}
 use Rattle.reading.specs.declared.invalid.TraceRecord.{TraceRecord}
 use Rattle.reading.specs.declared.invalid.TraceRecord.TheVariants.{TableField}
 use Rattle.reading.specs.declared.invalid.InvalidFlatbuffer.TheVariants.{MissingRequiredField, InconsistentUnion}
 use Rattle.verifier.specs.Told.{Seen, Told, bytes, done, table_of}
-use Rattle.verifier.proofs.Walks.{seen_is, seen_given, seen_accept, seen_refuse, seen_answer, seen_value, seen_got, seen_told, told_is, told_then, told_given, told_got, told_exit, told_within}
+use Rattle.verifier.proofs.Walks.{seen_is, seen_given, seen_accept, seen_refuse, seen_answer, seen_got, seen_told, told_is, told_then, told_given, told_got, told_exit}
 
 module _ (p word : ℕ) (v : Verifier) (g : word ≡ u32_at (bytes v) p) where
   pub leads_somewhere : (x : ℕ) → Some x ≡ led (bytes v) p word → Seen (given (leads p)) (λ b. vtable b p) (Ok x) v v

@@ -1,5 +1,5 @@
 -- What the calls of a string's walk read.
-use Rattle.std.proofs.Common.{◌≡◌, ℕ, ◌+◌, Bool, true, false, cond, ◌||◌, List, Ok, Err, sym, refl, ap, ◌∙◌}
+use Rattle.std.proofs.Common.{◌≡◌, ℕ, ◌+◌, Bool, true, false, cond, ◌||◌, Ok, Err, sym, refl, ap, ◌∙◌}
 use Rattle.std.proofs.lemmas.Bool.{eq-eqb, ne_eqb}
 use Rattle.wire.specs.Utf8.{longest_prefix}
 use Rattle.reading.specs.declared.invalid.InvalidFlatbuffer.TheVariants.{Utf8Error, MissingNullTerminator}

@@ -1,5 +1,5 @@
 -- What the calls of a vector's walk read.
-use Rattle.std.proofs.Common.{◌≡◌, ℕ, zero, suc, ◌+◌, ◌-◌, ◌*◌, ◌^◌, ◌<◌, ◌≤◌, min, List, Ok, Err, Result, sym, refl, ap, ◌∙◌, subst, add-one, arith}
+use Rattle.std.proofs.Common.{◌≡◌, ℕ, suc, ◌+◌, ◌-◌, ◌*◌, ◌^◌, ◌<◌, ◌≤◌, List, Ok, Result, sym, ap, ◌∙◌, add-one, arith}
 use Rattle.verifier.specs.declared.verifier.Verifier.{Verifier}
 use Rattle.reading.specs.declared.invalid.TraceRecord.{TraceRecord}
 use Rattle.reading.specs.declared.invalid.InvalidFlatbuffer.{InvalidFlatbuffer}
@@ -7,7 +7,7 @@ use Rattle.reading.specs.Input.{saturated, saturated_product, u32_at}
 use Rattle.reading.specs.Reading.{Walk, given, items, each, then, accept, element_at, follow, within}
 use Rattle.reading.specs.declared.invalid.TraceRecord.TheVariants.{VectorElement}
 use Rattle.verifier.specs.Told.{Layered, Seen, Told, bytes, done}
-use Rattle.verifier.proofs.Walks.{seen_is, seen_given, told_is, told_then, told_exit, told_within}
+use Rattle.verifier.proofs.Walks.{seen_is, seen_given, told_is, told_then, told_within}
 
 pub items_read : {X : Type 0} (p n a len start m : ℕ) (x : List ℕ → X) (r : Result X InvalidFlatbuffer) (v v' : Verifier) →
     len ≡ u32_at (bytes v) p → start ≡ saturated p 4 → m ≡ saturated_product len n →

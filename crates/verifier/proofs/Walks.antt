@@ -1,17 +1,16 @@
 -- How the walks of calls in a row join.
-use Rattle.std.proofs.Common.{◌≡◌, ℕ, ◌+◌, ◌%◌, ◌^◌, ◌<◌, ◌≤◌, min, Bool, true, false, cond, eqb, ltb, leb, List, [], ◌∷◌, ◌++◌, length, set, IsErrAnd, Ok, Err, Result, sym, refl, ap, ◌∙◌, subst, append-nil, arith}
+use Rattle.std.proofs.Common.{◌≡◌, ℕ, ◌<◌, ◌≤◌, Bool, true, false, cond, List, [], ◌∷◌, ◌++◌, length, set, IsErrAnd, Ok, Err, Result, sym, refl, ap, ◌∙◌, subst, append-nil, arith}
 use Rattle.reading.specs.declared.options.Counters.{Counters}
-use Rattle.reading.specs.declared.options.VerifierOptions.{VerifierOptions}
 use Rattle.reading.specs.declared.invalid.TraceRecord.{TraceRecord}
 use Rattle.reading.specs.declared.invalid.InvalidFlatbuffer.{InvalidFlatbuffer}
 use Rattle.verifier.specs.declared.verifier.Verifier.{Verifier}
-use Rattle.reading.specs.Reading.{Outcome, accepted, refused, Reading, Walk, then, given, after, continue, halted, accept, refuse, within, risen, limit, unless, aligned, ranged, in_buffer, spend, count_table, descend, ascend, raised, keeps, with_size}
+use Rattle.reading.specs.Reading.{Outcome, accepted, refused, Walk, then, given, accept, refuse, within, risen, limit, unless, ranged, spend}
 use Rattle.reading.specs.Input.{saturated}
-use Rattle.reading.specs.declared.invalid.InvalidFlatbuffer.TheVariants.{Unaligned, RangeOutOfBounds, ApparentSizeTooLarge, TooManyTables, DepthLimitReached}
+use Rattle.reading.specs.declared.invalid.InvalidFlatbuffer.TheVariants.{RangeOutOfBounds}
 use Rattle.std.proofs.lemmas.Result.{err_from_is_err_and}
-use Rattle.std.proofs.lemmas.Bool.{eq-eqb, ne_eqb, le-leb, lt-leb, leb-true}
+use Rattle.std.proofs.lemmas.Bool.{le-leb, lt-leb}
 use Rattle.reading.specs.Outcomes.{answer, counted, layer, trace_of, written}
-use Rattle.reading.proofs.Walks.{ranged_fits, then_accepted, then_refused}
+use Rattle.reading.proofs.Walks.{then_accepted, then_refused}
 use Rattle.verifier.specs.Told.{bytes, Kept, run, Seen, Told, Layered, done}
 
 pub kept_same : (v : Verifier) → Kept v v

@@ -1,5 +1,5 @@
 -- A whole verification, from a verifier that begins.
-use Rattle.std.proofs.Common.{◌≡◌, ℕ, ◌^◌, ◌<◌, List, length, IfOk, Result, sym, refl, ap, ◌∙◌, subst}
+use Rattle.std.proofs.Common.{◌≡◌, ℕ, ◌^◌, ◌<◌, List, length, IfOk, Result, refl, ap, ◌∙◌}
 use Rattle.reading.specs.declared.invalid.InvalidFlatbuffer.{InvalidFlatbuffer}
 use Rattle.reading.specs.declared.invalid.TraceRecord.{TraceRecord}
 use Rattle.reading.specs.declared.options.Counters.{Counters}
@@ -10,7 +10,7 @@ use Rattle.reading.specs.Reading.{Outcome, accepted, reading, refused}
 use Rattle.reading.specs.Shape.{Shape}
 use Rattle.reading.proofs.Law.{every_shape_lies_inside}
 use Rattle.verifier.specs.declared.verifier.Verifier.{Verifier}
-use Rattle.verifier.specs.Told.{Begun, Told, Verified, bytes, done, run, unmet}
+use Rattle.verifier.specs.Told.{Begun, Told, Verified, done, run, unmet}
 
 module _ (s : Shape) (p : ℕ) (b : List ℕ) (o : VerifierOptions) (h : length b < 2 ^ 63) where
   lies : (r : Result (Unit {0}) InvalidFlatbuffer) → r ≡ answer (reading s p b o unmet).outcome tt → IfOk r (λ _. Inside b (reading s p b o unmet).ranges)

@@ -14,8 +14,8 @@ pub record Order (K : Type 0) : Type 0 where
   pub alike : (x y z : K) → cmp x y ≡ Equal → cmp x z ≡ cmp y z
 
 -- an order that the library knows to be total
-abbrev pub ordered : {K : Type 0} {R : K → K → Ordering → Type 0} → IsTotalOrder R → Order K
-ordered o = record { cmp = o.cmp; flip = o.antisymm; trans = o.trans; alike = o.congr }
+abbrev pub ordered : {K : Type 0} {R : K → K → Ordering} → IsTotalOrder R → Order K
+ordered {R = R} o = record { cmp = R; flip = o.antisymm; trans = o.trans; alike = o.congr }
 
 -- the element x is the one sought, or the search goes on above or below it
 abbrev pub by_rank : {X : Type 0} → Ordering → X → (above below : Option X) → Option X

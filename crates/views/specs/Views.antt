@@ -1,5 +1,5 @@
 -- What views show of an input: functions of its bytes and a position.
-use Rattle.std.specs.Prelude.{ℕ, ◌+◌, ◌-◌, ◌*◌, ◌/◌, Bool, true, false, cond, ◌&&◌, List, take, drop, Some, None, Option, ◌==◌, nat_le, nat_lt}
+use Rattle.std.specs.Prelude.{ℕ, ◌+◌, ◌-◌, ◌*◌, ◌/◌, Bool, false, cond, ◌&&◌, List, take, drop, Some, None, Option, ◌==◌, nat_le, nat_lt}
 use Rattle.wire.specs.Places.{led}
 use Rattle.wire.specs.Slots.{slot_stands}
 use Rattle.wire.specs.Utf8.{well_formed}

@@ -2,8 +2,6 @@
 ghost use Rattle.std.specs.Prelude.{◌≡◌, true};
 ghost use Rattle.views.specs.Views.{table_inside};
 
-use crate::Input;
-
 pub mod identifier;
 pub mod methods;
 
@@ -11,6 +9,5 @@ pub mod methods;
 pub struct Table<'a> {
     pub(crate) buf: &'a [u8],
     pub(crate) loc: usize,
-    pub(crate) input: Input<'a>,
     ghost inside: { table_inside buf.now loc ≡ true },
 }

@@ -4,15 +4,12 @@ ghost use Rattle.wire.specs.Utf8.{well_formed};
 ghost use Rattle.wire.specs.Words.{word};
 ghost use Rattle.views.specs.Views.{text_bytes};
 
-use crate::Input;
-
 pub mod methods;
 
 #[derive(Clone, Copy)]
 pub struct Text<'a> {
     pub(crate) buf: &'a [u8],
     pub(crate) loc: usize,
-    pub(crate) input: Input<'a>,
     ghost head: { loc + 4 ≤ length buf.now },
     ghost inside: { loc + 4 + word 4 buf.now loc ≤ length buf.now },
     ghost utf8: { well_formed (text_bytes buf.now loc) ≡ true },

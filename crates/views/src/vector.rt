@@ -1,8 +1,8 @@
 // A vector: a count and then its elements, each of the size that the view keeps.
-ghost use Rattle.std.specs.Prelude.{◌+◌, ◌*◌, ◌≤◌, length};
+ghost use Rattle.std.specs.Prelude.{◌≡◌, ◌+◌, ◌*◌, ◌≤◌, ⊤, length};
 ghost use Rattle.wire.specs.Words.{word};
 
-use crate::Input;
+use std::alloc::AllocError;
 use std::marker::PhantomData;
 
 pub mod methods;
@@ -12,9 +12,18 @@ pub struct Vector<'a, T> {
     pub(crate) loc: usize,
     pub(crate) size: usize,
     pub(crate) kind: PhantomData<T>,
-    pub(crate) input: Input<'a>,
     ghost head: { loc + 4 ≤ length buf.now },
     ghost inside: { loc + 4 + size * word 4 buf.now loc ≤ length buf.now },
+}
+
+impl<'a, T> Clone for Vector<'a, T> {
+    ghost is_clone = { λ x y. y ≡ x };
+
+    ghost is_infallible = { λ _. ⊤ };
+
+    fn clone(&self) -> Result<Self, AllocError> {
+        Ok(*self)
+    }
 }
 
 impl<'a, T> Copy for Vector<'a, T> {}

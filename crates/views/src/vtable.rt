@@ -2,15 +2,12 @@
 ghost use Rattle.std.specs.Prelude.{◌+◌, ◌≤◌, length};
 ghost use Rattle.wire.specs.Words.{word};
 
-use crate::Input;
-
 pub mod methods;
 
 #[derive(Clone, Copy)]
 pub struct VTable<'a> {
     pub(crate) buf: &'a [u8],
     pub(crate) loc: usize,
-    pub(crate) input: Input<'a>,
     ghost head: { loc + 2 ≤ length buf.now },
     ghost inside: { loc + word 2 buf.now loc ≤ length buf.now },
 }

@@ -1,6 +1,6 @@
 -- What the law of a kind gives of a row of its values.
 use Rattle.std.proofs.Common.{◌≡◌, ℕ, zero, suc, ◌+◌, ◌*◌, ◌^◌, ◌<◌, ◌≤◌, Bool, true, false, ◌&&◌, T, ltb, List, [], ◌∷◌, ◌++◌, map, length, get_or, drop, Some, None, Option, sym, refl, ap, ◌∙◌, subst, mul-le-mul_right, suc-mul, mul-le-mul_left, arith, length-drop}
-use Rattle.std.specs.List.{AllByRecursion as All}
+use Rattle.std.specs.List.{AllByRecursion}
 use Rattle.std.proofs.lemmas.List.{append_assoc, drop_more, length-append, length-map, length-replicate}
 use Rattle.std.proofs.lemmas.Bool.Decides.{nat_tests}
 use Rattle.wire.specs.Bytes.{zeros}
@@ -24,7 +24,7 @@ stands_more : (o : Option ℕ) (used more : ℕ) → stands o used ≡ true → 
 stands_more None used more e h = refl
 stands_more (Some o) used more e h = grind (arith, nat_tests)
 
-pub length_row : (k : Layout) (xs : List Pushed) (used : ℕ) → All (Of k) xs → length (row xs used) ≡ length xs * k.size
+pub length_row : (k : Layout) (xs : List Pushed) (used : ℕ) → AllByRecursion (Of k) xs → length (row xs used) ≡ length xs * k.size
 length_row k [] used of = omega arith
 length_row k (x ∷ xs) used of =
     let h = length_row k xs used of.1 in
@@ -32,7 +32,7 @@ length_row k (x ∷ xs) used of =
     let s = of.0.0 in
     simp (length-append, suc-mul) (omega arith)
 
-pub length_vector : (k : Layout) (xs : List Pushed) (used : ℕ) → All (Of k) xs
+pub length_vector : (k : Layout) (xs : List Pushed) (used : ℕ) → AllByRecursion (Of k) xs
     → used + length (vector_bytes k xs used) ≡ vector_space used (length xs * k.size) k.alignment
 length_vector k xs used of =
     let pad = vector_padding used (length xs * k.size) k.alignment in

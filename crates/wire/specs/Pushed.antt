@@ -1,6 +1,6 @@
 -- A pushed value without its type, with what its kind's law says of it.
 use Rattle.std.specs.Prelude.{◌≡◌, ℕ, ◌%◌, ◌<◌, List, [], ◌∷◌, map, length, Option, refl}
-use Rattle.std.specs.List.{AllByRecursion as All}
+use Rattle.std.specs.List.{AllByRecursion}
 use Rattle.wire.specs.Bytes.{Octets}
 use Rattle.wire.specs.Kind.{Meaning, Law, Alignment, Leads}
 
@@ -51,6 +51,6 @@ module _ {V S : Type 0} (m : Meaning V S) (law : Law m) where
       }
 
   -- values of the kind have its layout
-  abbrev pub all_of : (vs : List V) → All (Of layout) (map pushed vs)
+  abbrev pub all_of : (vs : List V) → AllByRecursion (Of layout) (map pushed vs)
   all_of [] = tt
   all_of (v ∷ vs) = ((refl, refl), all_of vs)

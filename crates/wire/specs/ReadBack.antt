@@ -1,6 +1,6 @@
 -- What a vector's elements read as, once they are written.
 use Rattle.std.specs.Prelude.{◌≡◌, ℕ, ◌+◌, ◌*◌, ◌<◌, ◌≤◌, true, T, List, ◌++◌, map, length, Some, slice_index_or}
-use Rattle.std.specs.List.{AllByRecursion as All}
+use Rattle.std.specs.List.{AllByRecursion}
 use Rattle.wire.specs.Words.{word}
 use Rattle.wire.specs.Kind.{Meaning, Law}
 use Rattle.wire.specs.Pushed.{layout, pushed}
@@ -9,7 +9,7 @@ use Rattle.wire.specs.Layouts.{all_stand, vector_bytes, vector_space, element}
 module _ {V S : Type 0} (m : Meaning V S) (law : Law m) where
   -- the machine holds each value
   abbrev pub Fit : List V → Type 0
-  Fit xs = All (λ x. T (m.fits x)) xs
+  Fit xs = AllByRecursion (λ x. T (m.fits x)) xs
 
   -- the buffer after the vector of xs was written in front of the used bytes, and other bytes in front of it
   abbrev pub with_vector : (xs : List V) (front used : List ℕ) → List ℕ

@@ -6,7 +6,6 @@ use super::Table;
 use crate::follow::Follow;
 use crate::vtable::VTable;
 use kinds::follow::contains;
-use std::marker::PhantomData;
 use wire::words::{led_to, read_u32};
 
 impl<'a> Table<'a> {
@@ -20,11 +19,7 @@ impl<'a> Table<'a> {
         }
         let place = led_to(buf, loc, read_u32(buf, loc))?;
         let _vtable = VTable::init(buf, place)?;
-        Some(Table {
-            buf,
-            loc,
-            input: PhantomData,
-        })
+        Some(Table { buf, loc })
     }
 
     pub fn buf(&self) -> &'a [u8]
@@ -47,7 +42,6 @@ impl<'a> Table<'a> {
         VTable {
             buf: self.buf,
             loc: place,
-            input: PhantomData,
         }
     }
 

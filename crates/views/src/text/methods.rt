@@ -6,7 +6,6 @@ use super::Text;
 use crate::follow::Follow;
 use kinds::follow::contains;
 use kinds::names::Str;
-use std::marker::PhantomData;
 use std::str::from_utf8_unchecked;
 use wire::utf8::is_utf8;
 use wire::words::read_u32;
@@ -37,17 +36,13 @@ impl<'a> Text<'a> {
         if !is_utf8(part(buf, loc)) {
             return None;
         }
-        Some(Text {
-            buf,
-            loc,
-            input: PhantomData,
-        })
+        Some(Text { buf, loc })
     }
 
     // That part of the caller's input.
     pub fn as_bytes(&self) -> &'a [u8]
         ensures value { result.now ≡ text_bytes self.now.buf.now self.now.loc }
-        ensures place { result.ref_ptr ≡ (self.now.buf.ptr.0, self.now.buf.ptr.1 + (self.now.loc + 4)) }
+        ensures place { result.ref_ptr ≡ (self.now.buf.ref_ptr.0, self.now.buf.ref_ptr.1 + (self.now.loc + 4)) }
     {
         part(self.buf, self.loc)
     }

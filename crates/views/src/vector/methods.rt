@@ -31,7 +31,7 @@ impl<'a, T> Vector<'a, T> {
     // The bytes of the elements: that part of the caller's input.
     pub fn bytes(&self) -> &'a [u8]
         ensures value { result.now ≡ element_bytes self.now.size self.now.buf.now self.now.loc }
-        ensures place { result.ref_ptr ≡ (self.now.buf.ptr.0, self.now.buf.ptr.1 + (self.now.loc + 4)) }
+        ensures place { result.ref_ptr ≡ (self.now.buf.ref_ptr.0, self.now.buf.ref_ptr.1 + (self.now.loc + 4)) }
     {
         let len = self.len();
         let buf = self.buf;
@@ -61,7 +61,6 @@ impl<'a, T: Element> Vector<'a, T> {
             loc,
             size,
             kind: PhantomData,
-            input: PhantomData,
         })
     }
 }

@@ -4,7 +4,6 @@ ghost use Rattle.views.specs.Views.{vtable_inside, vtable_bytes, slot_value, obj
 
 use super::VTable;
 use kinds::follow::contains;
-use std::marker::PhantomData;
 use wire::slot::valid_slot;
 use wire::words::read_u16;
 
@@ -20,11 +19,7 @@ impl<'a> VTable<'a> {
         if !contains(buf, loc, read_u16(buf, loc) as usize) {
             return None;
         }
-        Some(VTable {
-            buf,
-            loc,
-            input: PhantomData,
-        })
+        Some(VTable { buf, loc })
     }
 
     // The number of slots.
@@ -64,7 +59,7 @@ impl<'a> VTable<'a> {
     // That part of the caller's input.
     pub fn as_bytes(&self) -> &'a [u8]
         ensures value { result.now ≡ vtable_bytes self.now.buf.now self.now.loc }
-        ensures place { result.ref_ptr ≡ (self.now.buf.ptr.0, self.now.buf.ptr.1 + self.now.loc) }
+        ensures place { result.ref_ptr ≡ (self.now.buf.ref_ptr.0, self.now.buf.ref_ptr.1 + self.now.loc) }
     {
         let len = self.num_bytes();
         let buf = self.buf;

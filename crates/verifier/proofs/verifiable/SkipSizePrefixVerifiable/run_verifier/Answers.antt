@@ -6,4 +6,4 @@ use Rattle.verifier.proofs.verifiable.SkipSizePrefixVerifiable.run_verifier.Goal
 
 pub returns : goal.returns
 unfolding reading saturated
-returns g c = told_is (ap (reading g.T.Verifiable.shape) c.saturating-add.ensures) c.run-verifier.ensures
+returns g c = told_is (ap (reading g.T.Verifiable.shape) c.saturating_add.ensures) c.run_verifier.ensures

@@ -1,4 +1,4 @@
-use Rattle.std.proofs.Common.{◌≡◌, sym, refl, ap, ◌∙◌, arith}
+use Rattle.std.proofs.Common.{ap, ◌∙◌, arith}
 use Rattle.reading.specs.Input.{saturated, u32_at}
 use Rattle.reading.specs.Reading.{reading, visit_string, text_of, given}
 use Rattle.verifier.specs.Told.{bytes, done}
@@ -7,19 +7,19 @@ use Rattle.verifier.proofs.verifiable.StrVerifiable.run_verifier.Goals as goal
 
 pub text-requires : goal.text-requires
 unfolding saturated
-text-requires c = let h = c.in-ok-len.ensures.lies in let s = c.saturating-add.ensures in omega (arith, h, s)
+text-requires c = let h = c.in_ok-len.ensures.lies in let s = c.saturating_add.ensures in omega (arith, h, s)
 
-pub returns-in-err-len : goal.returns-in-err-len
+pub returns-in_err-len : goal.returns-in_err-len
 unfolding reading visit_string
-returns-in-err-len c =
-    seen_told c.args.-trace.now
-    (seen_exit (given (λ b. text_of (saturated c.args.pos 4) (u32_at b c.args.pos) b)) done c.from-residual.result c.from-residual.ensures.1 c.in-err-len.ensures.seen)
+returns-in_err-len c =
+    seen_told c.args._trace.now
+    (seen_exit (given (λ b. text_of (saturated c.args.pos 4) (u32_at b c.args.pos) b)) done c.from_residual.result c.from_residual.ensures.1 c.in_err-len.ensures.seen)
 
 pub returns : goal.returns
 unfolding reading visit_string saturated
 returns c =
-    let h = c.in-ok-len.ensures.seen in
+    let h = c.in_ok-len.ensures.seen in
     let b = bytes c.vector_range.new.self in
-    seen_told c.args.-trace.now
+    seen_told c.args._trace.now
     (seen_then h (seen_given (λ b. text_of (saturated c.args.pos 4) (u32_at b c.args.pos) b)
-    (seen_is (ap (λ s. text_of s c.in-ok-len.field-0 b) c.saturating-add.ensures ∙ ap (λ n. text_of (saturated c.args.pos 4) n b) (seen_got h)) c.text.ensures)))
+    (seen_is (ap (λ s. text_of s c.in_ok-len.field-0 b) c.saturating_add.ensures ∙ ap (λ n. text_of (saturated c.args.pos 4) n b) (seen_got h)) c.text.ensures)))

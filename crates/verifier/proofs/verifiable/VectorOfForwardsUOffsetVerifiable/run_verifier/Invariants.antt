@@ -1,4 +1,3 @@
-use Rattle.std.proofs.Common.{◌≡◌}
 use Rattle.reading.specs.Input.{saturated}
 use Rattle.reading.specs.Reading.{reading, element_at}
 use Rattle.verifier.proofs.Vectors.{Rest}

@@ -1,32 +1,32 @@
-use Rattle.std.proofs.Common.{◌≡◌, ap}
+use Rattle.std.proofs.Common.{ap}
 use Rattle.reading.specs.Input.{saturated}
 use Rattle.reading.specs.Reading.{enter, then, aligned, ranged, count_table, descend}
 use Rattle.verifier.specs.Told.{done}
 use Rattle.verifier.proofs.Walks.{seen_then, seen_exit, seen_is}
 use Rattle.verifier.proofs.verifier.Verifier.enter.Goals as goal
 
-pub returns-in-err-is-aligned : goal.returns-in-err-is-aligned
+pub returns-in_err-is_aligned : goal.returns-in_err-is_aligned
 unfolding enter saturated
-returns-in-err-is-aligned c =
-    seen_exit (then (ranged c.args.vtable c.args.vtable_len) (then count_table descend)) done c.from-residual.result c.from-residual.ensures.1
-    (seen_is (ap (λ n. aligned n 2) c.saturating-add.ensures) c.in-err-is-aligned.ensures)
+returns-in_err-is_aligned c =
+    seen_exit (then (ranged c.args.vtable c.args.vtable_len) (then count_table descend)) done c.from_residual.result c.from_residual.ensures.1
+    (seen_is (ap (λ n. aligned n 2) c.saturating_add.ensures) c.in_err-is_aligned.ensures)
 
-pub returns-in-err-range-in-buffer : goal.returns-in-err-range-in-buffer
+pub returns-in_err-range_in_buffer : goal.returns-in_err-range_in_buffer
 unfolding enter saturated
-returns-in-err-range-in-buffer c =
-    seen_then (seen_is (ap (λ n. aligned n 2) c.saturating-add.ensures) c.in-ok-is-aligned.ensures)
-    (seen_exit (then count_table descend) done c.from-residual-in-err-range-in-buffer.result c.from-residual-in-err-range-in-buffer.ensures.1 c.in-err-range-in-buffer.ensures.seen)
+returns-in_err-range_in_buffer c =
+    seen_then (seen_is (ap (λ n. aligned n 2) c.saturating_add.ensures) c.in_ok-is_aligned.ensures)
+    (seen_exit (then count_table descend) done c.from_residual-in_err-range_in_buffer.result c.from_residual-in_err-range_in_buffer.ensures.1 c.in_err-range_in_buffer.ensures.seen)
 
-pub returns-in-err-count-table : goal.returns-in-err-count-table
+pub returns-in_err-count_table : goal.returns-in_err-count_table
 unfolding enter saturated
-returns-in-err-count-table c =
-    seen_then (seen_is (ap (λ n. aligned n 2) c.saturating-add.ensures) c.in-ok-is-aligned.ensures)
-    (seen_then c.in-ok-range-in-buffer.ensures.seen
-    (seen_exit descend done c.from-residual-in-err-count-table.result c.from-residual-in-err-count-table.ensures.1 c.in-err-count-table.ensures))
+returns-in_err-count_table c =
+    seen_then (seen_is (ap (λ n. aligned n 2) c.saturating_add.ensures) c.in_ok-is_aligned.ensures)
+    (seen_then c.in_ok-range_in_buffer.ensures.seen
+    (seen_exit descend done c.from_residual-in_err-count_table.result c.from_residual-in_err-count_table.ensures.1 c.in_err-count_table.ensures))
 
 pub returns : goal.returns
 unfolding enter saturated
 returns c =
-    seen_then (seen_is (ap (λ n. aligned n 2) c.saturating-add.ensures) c.in-ok-is-aligned.ensures)
-    (seen_then c.in-ok-range-in-buffer.ensures.seen
-    (seen_then c.in-ok-count-table.ensures c.descend.ensures))
+    seen_then (seen_is (ap (λ n. aligned n 2) c.saturating_add.ensures) c.in_ok-is_aligned.ensures)
+    (seen_then c.in_ok-range_in_buffer.ensures.seen
+    (seen_then c.in_ok-count_table.ensures c.descend.ensures))

@@ -6,7 +6,7 @@ pub returns : goal.returns
 unfolding ascend
 returns c = record {
   result = refl;
-  counters = ap (with_depth c.args.self.now.counters) c.saturating-sub-self.ensures;
+  counters = ap (with_depth c.args.self.now.counters) c.saturating_sub-self.ensures;
   traced = refl;
   quiet = refl;
   kept = record { buffer = refl; opts = refl };

@@ -4,5 +4,5 @@ use Rattle.verifier.proofs.verifier.Verifier.verify_union_variant.Goals as goal
 
 pub returns : goal.returns
 returns g c =
-    told_result c.append-trace.ensures.result
-    (told_within (UnionVariant c.args.key c.args.position) c.run-verifier-res.ensures c.append-trace.ensures.layered)
+    told_result c.append_trace.ensures.result
+    (told_within (UnionVariant c.args.key c.args.position) c.run_verifier-res.ensures c.append_trace.ensures.layered)

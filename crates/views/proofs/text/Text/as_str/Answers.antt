@@ -2,5 +2,5 @@ use Rattle.std.proofs.Common.{IsUtf8, sym, subst}
 use Rattle.wire.proofs.WellFormed.{utf8_from_well_formed}
 use Rattle.views.proofs.text.Text.as_str.Goals as goal
 
-pub from-utf8-unchecked-requires : goal.from-utf8-unchecked-requires
-from-utf8-unchecked-requires c = subst IsUtf8 (sym c.part-bytes.ensures.value) (utf8_from_well_formed _ c.args.self.now.utf8)
+pub from_utf8_unchecked-requires : goal.from_utf8_unchecked-requires
+from_utf8_unchecked-requires c = subst IsUtf8 (sym c.part-bytes.ensures.value) (utf8_from_well_formed _ c.args.self.now.utf8)

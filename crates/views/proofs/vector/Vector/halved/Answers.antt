@@ -4,14 +4,14 @@ use Rattle.views.specs.Views.{element_of}
 use Rattle.views.proofs.Halving.{none_met, found_equal, reached_less, none_below, reached_greater}
 use Rattle.views.proofs.vector.Vector.halved.Goals as goal
 
-pub overflow-add-mid : goal.overflow-add-mid
-overflow-add-mid g c = omega arith
+pub overflow_add-mid : goal.overflow_add-mid
+overflow_add-mid g c = omega arith
 
-pub returns-in-default : goal.returns-in-default
-returns-in-default g c = record {
+pub returns-in_default : goal.returns-in_default
+returns-in_default g c = record {
   value = none_met (g.T.Follow.borrows c.args.self.now.buf) g.T.Follow.means g.K.KeyOrder.key g.K.KeyOrder.order (g.K.KeyOrder.sought c.args.key.now)
       (element_of g.T.Follow.reads c.args.self.now.size c.args.self.now.buf.now c.args.self.now.loc) (word 4 c.args.self.now.buf.now c.args.self.now.loc)
-      c.loop-left.left c.loop-left.right c.loop-left.invariant.1 c.loop-left-test.true c.in-default.ensures.value;
+      c.loop-left.left c.loop-left.right c.loop-left.invariant.1 c.loop-left-test.true c.in_default.ensures.value;
   borrowed = tt;
   sound = tt;
 }
