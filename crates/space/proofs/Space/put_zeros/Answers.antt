@@ -17,7 +17,7 @@ pub loop-left-init : goal.loop-left-init
 loop-left-init g c =
     let list = g.S.Allocator.list in
     let limit = g.S.Allocator.limit in
-    let s : Space _ _ = record { allocator = c.args.self.now.allocator; used = c.min-used.result } in
+    let s : Space g.row.S.Denot g.row.S-Error.Denot = record { allocator = c.args.self.now.allocator; used = c.min-used.result } in
     let none : 0 ≡ c.args.count - c.args.count = omega arith in (
       omega arith,
       subst (λ (n : ℕ). Placed list limit s s true (zeros n)) none
@@ -43,6 +43,6 @@ returns g c =
     let limit = g.S.Allocator.limit in
     let s = c.args.self.now in
     let all : c.args.count - c.loop-left.left ≡ c.args.count = omega arith in
-    let mid : Space _ _ = record { allocator = s.allocator; used = c.min-used.result } in
+    let mid : Space g.row.S.Denot g.row.S-Error.Denot = record { allocator = s.allocator; used = c.min-used.result } in
     placed_settled list limit s mid c.loop-left.self true (zeros c.args.count) (omega (arith, length_last s.used (list s.allocator))) refl
     (subst (λ (n : ℕ). Placed list limit mid c.loop-left.self true (zeros n)) all c.loop-left.invariant.1)

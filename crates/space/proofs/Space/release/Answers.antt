@@ -12,7 +12,7 @@ returns g c =
     let limit = g.S.Allocator.limit in
     let s = c.args.self.now in
     let back = c.min-back.result in
-    let mid : Space _ _ = record { allocator = s.allocator; used = c.used-used.result - back } in
+    let mid : Space g.row.S.Denot g.row.S-Error.Denot = record { allocator = s.allocator; used = c.used-used.result - back } in
     let zeroed = c.put_zeros.new.self in
     let long = length_last s.used (list s.allocator) in
     let front = length_front mid.used (list s.allocator) in
