@@ -1,4 +1,8 @@
 // What a call answers, and how it is printed.
+ghost use Rattle.std.specs.Prelude.{◌≡◌, IfErr};
+ghost use Rattle.std.specs.IoError.{error_kind};
+ghost use Rattle.std.specs.declared.io.ErrorKind.TheVariants.{OutOfMemory};
+
 use crate::fault::Fault;
 use std::alloc::{AllocError, Global};
 use std::io;
@@ -45,7 +49,10 @@ pub struct Answers {
 }
 
 impl Answers {
-    pub fn new(output: Stdout, heap: Global) -> io::Result<Answers> {
+    // The buffer is allocated: that is all that can fail.
+    pub fn new(output: Stdout, heap: Global) -> io::Result<Answers>
+        ensures { IfErr result (λ e. error_kind e ≡ OutOfMemory) }
+    {
         Ok(Answers {
             output: BufWriter::new(heap, output)?,
             heap,

@@ -1,4 +1,8 @@
 // The lines of a script.
+ghost use Rattle.std.specs.Prelude.{◌≡◌, IfErr};
+ghost use Rattle.std.specs.IoError.{error_kind};
+ghost use Rattle.std.specs.declared.io.ErrorKind.TheVariants.{OutOfMemory};
+
 use crate::fault::Fault;
 use crate::words::Words;
 use std::alloc::Global;
@@ -37,7 +41,10 @@ pub struct Script {
 }
 
 impl Script {
-    pub fn new(input: Stdin, heap: Global) -> io::Result<Script> {
+    // The buffer is allocated: that is all that can fail.
+    pub fn new(input: Stdin, heap: Global) -> io::Result<Script>
+        ensures { IfErr result (λ e. error_kind e ≡ OutOfMemory) }
+    {
         Ok(Script {
             input: BufReader::new(heap, input)?,
             line: Vec::new(heap),
