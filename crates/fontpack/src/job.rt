@@ -2,7 +2,7 @@
 ghost use Rattle.std.specs.Prelude.{◌≡◌, ◌-◌, true, length, is_ok, IfOk, if◌then◌else◌, Some, None, nat_le};
 ghost use Rattle.space.specs.Taken.{taken};
 ghost use Rattle.std.specs.Option.{option_map};
-ghost use Rattle.fontpack.specs.Job.{at_offset, count as count_of, kern_of, string as stringOf, with_kerns, with_name};
+ghost use Rattle.fontpack.specs.Job.{at_offset, count as count_of, kern_of, string as string_of, with_kerns, with_name};
 
 use font::kern::Kern;
 use kinds::Kind;
@@ -56,7 +56,7 @@ pub fn count_at(bytes: &[u8], offset: u32) -> Option<u32>
 
 // The bytes of the string at an offset.
 pub fn string_at(bytes: &[u8], offset: u32) -> Option<&[u8]>
-    ensures { option_map (λ x. x.now) result ≡ at_offset (stringOf bytes.now) bytes.now offset }
+    ensures { option_map (λ x. x.now) result ≡ at_offset (string_of bytes.now) bytes.now offset }
 {
     let at = position(bytes, offset)?;
     let count = u32::follow(bytes, at)? as usize;
