@@ -63,5 +63,5 @@ module _ {V M K : Type 0} (own : V → Type 0) (means : V → M) (key : V → K)
       → (k : ℕ) (m : M) → k < count → e k ≡ Some m → order.cmp (keyed m) sought ≡ Equal → is_some r ≡ true
 
   -- what is left of the search is the halving from left to right
-  abbrev pub Reached : (count left right : ℕ) → Type 0
-  Reached count left right = (keyed : M → K) → Keyed keyed → lookup e (λ m. order.cmp (keyed m) sought) count ≡ halving e (λ m. order.cmp (keyed m) sought) (right + 1 - left) left right
+  pub record Reached (count left right : ℕ) : Type 0 where
+    pub is : (keyed : M → K) → Keyed keyed → lookup e (λ m. order.cmp (keyed m) sought) count ≡ halving e (λ m. order.cmp (keyed m) sought) (right + 1 - left) left right

@@ -16,6 +16,7 @@ pub struct Vector<'a, T> {
     ghost inside: { loc + 4 + size * word 4 buf.now loc ≤ length buf.now },
 }
 
+// By hand: `derive_where` takes no struct with ghost fields, and `derive` would ask for `T: Copy`.
 impl<'a, T> Clone for Vector<'a, T> {
     ghost is_clone = { λ x y. y ≡ x };
 

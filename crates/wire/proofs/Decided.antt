@@ -1,10 +1,10 @@
 -- What a call is told, by its tests.
-use Rattle.std.proofs.Common.{◌≡◌, ℕ, ◌≤◌, Bool, true, false, cond, ltb, leb, List, [], ◌∷◌, ◌++◌, Ok, Err, Result, refl, ap, ◌∙◌, arith}
-use Rattle.std.proofs.lemmas.Bool.{cond-true, cond-false, leb-true, leb-false, ltb-false}
+use Rattle.std.proofs.Common.{◌≡◌, ℕ, ◌≤◌, Bool, true, false, ltb, leb, List, [], ◌∷◌, ◌++◌, Ok, Err, refl, arith}
+use Rattle.std.proofs.lemmas.Bool.Decides.{nat_tests}
+use Rattle.std.proofs.lemmas.Bool.{cond-true, cond-false}
 use Rattle.wire.specs.declared.refusal.Refusal.{Refusal}
 use Rattle.wire.specs.declared.refusal.Refusal.TheVariants.{TooLong, Store}
 use Rattle.wire.specs.Answers.{Why, Test, Where, above, decided, number, space_tests, too_much}
-use Rattle.wire.proofs.Conds.{ltb_yes, ltb_no}
 
 module _ {A : Type 0} (x : A) where
   -- a test that fails refuses
@@ -16,16 +16,14 @@ module _ {A : Type 0} (x : A) where
   decided_pass t ts e = cond-false t.fails _ _ e
 
   pub told_long : (n limit : ℕ) → ltb 2147483647 n ≡ true → decided (space_tests n limit) x ≡ Err TooLong
-  told_long n limit e = cond-true (ltb 2147483647 n) _ _ e
+  told_long n limit e = grind arith
 
   -- the used space after a call is one number, and what it asks of the store may be another
   pub asks_store : (n m limit : ℕ) → n ≤ 2147483647 → leb m limit ≡ false → decided (too_much n ∷ above m limit ∷ []) x ≡ Err (Store tt)
-  asks_store n m limit low e =
-      cond-false (ltb 2147483647 n) _ _ (ltb_no 2147483647 n low) ∙ cond-true (ltb limit m) _ _ (ltb_yes limit m (leb-false m limit e))
+  asks_store n m limit low e = grind (arith, nat_tests)
 
   pub asks_done : (n m limit : ℕ) → n ≤ 2147483647 → leb m limit ≡ true → decided (too_much n ∷ above m limit ∷ []) x ≡ Ok x
-  asks_done n m limit low e =
-      cond-false (ltb 2147483647 n) _ _ (ltb_no 2147483647 n low) ∙ cond-false (ltb limit m) _ _ (ltb_no limit m (leb-true m limit e))
+  asks_done n m limit low e = grind (arith, nat_tests)
 
   pub told_store : (n limit : ℕ) → n ≤ 2147483647 → leb n limit ≡ false → decided (space_tests n limit) x ≡ Err (Store tt)
   told_store n limit = asks_store n n limit
@@ -36,65 +34,37 @@ module _ {A : Type 0} (x : A) where
 -- an accepted call answers what it is to answer
 pub decided_ok : {A : Type 0} (x y : A) (ts : List Test) → Ok y ≡ decided ts x → y ≡ x
 decided_ok x y [] e = cc
-decided_ok x y (t ∷ ts) e = by t.fails e (decided_ok x y ts)
-  where
-    by : (b : Bool) → Ok y ≡ cond b (Err t.why) (decided ts x) → (Ok y ≡ decided ts x → y ≡ x) → y ≡ x
-    by true e rest = let z : ◌≡◌ {A = ℕ} 0 1 = cc in absurd (omega arith)
-    by false e rest = rest e
+decided_ok x y (t ∷ ts) e = grind (arith, decided_ok x y ts)
 
 -- a refusal does not depend on the answer
 pub decided_err : {A B : Type 0} (w : Why) (ts : List Test) (x : A) (y : B) → Err w ≡ decided ts x → Err w ≡ decided ts y
-decided_err w [] x y e = let z : ◌≡◌ {A = ℕ} 0 1 = cc in absurd (omega arith)
-decided_err w (t ∷ ts) x y e = by t.fails e (decided_err w ts x y)
-  where
-    by : (b : Bool) → Err w ≡ cond b (Err t.why) (decided ts x) → (Err w ≡ decided ts x → Err w ≡ decided ts y) → Err w ≡ cond b (Err t.why) (decided ts y)
-    by true e rest = let same : w ≡ t.why = cc in ap Err same
-    by false e rest = rest e
+decided_err w [] x y e = cc
+decided_err w (t ∷ ts) x y e = grind (arith, decided_err w ts x y)
 
 -- nor does acceptance
 pub decided_other : {A B : Type 0} (v : A) (ts : List Test) (x : A) (y : B) → Ok v ≡ decided ts x → Ok y ≡ decided ts y
 decided_other v [] x y e = refl
-decided_other v (t ∷ ts) x y e = by t.fails e (decided_other v ts x y)
-  where
-    by : (b : Bool) → Ok v ≡ cond b (Err t.why) (decided ts x) → (Ok v ≡ decided ts x → Ok y ≡ decided ts y) → Ok y ≡ cond b (Err t.why) (decided ts y)
-    by true e rest = let z : ◌≡◌ {A = ℕ} 0 1 = cc in absurd (omega arith)
-    by false e rest = rest e
+decided_other v (t ∷ ts) x y e = grind (arith, decided_other v ts x y)
 
 -- an accepted call that takes space stays below 2 GiB
 pub tests_low : {A : Type 0} (n : ℕ) (ts : List Test) (v x : A) → Ok v ≡ decided (too_much n ∷ ts) x → n ≤ 2147483647
-tests_low n ts v x e = ltb-false 2147483647 n (by (ltb 2147483647 n) (decided ts x) e)
-  where
-    by : (b : Bool) (r : Result _ Why) → Ok v ≡ cond b (Err TooLong) r → b ≡ false
-    by false r e = refl
-    by true r e = let z : ◌≡◌ {A = ℕ} 0 1 = cc in absurd (omega arith)
+tests_low n ts v x e = grind (arith, nat_tests)
 
 pub space_low : {A : Type 0} (n limit : ℕ) (v x : A) → Ok v ≡ decided (space_tests n limit) x → n ≤ 2147483647
 space_low n limit v x e = tests_low n (above n limit ∷ []) v x e
 
 -- an accepted call passed its first test
 pub passed_on : {A : Type 0} (t : Test) (ts : List Test) (v x : A) → Ok v ≡ decided (t ∷ ts) x → (t.fails ≡ false) × (Ok v ≡ decided ts x)
-passed_on t ts v x e = by t.fails e
-  where
-    by : (b : Bool) → Ok v ≡ cond b (Err t.why) (decided ts x) → (b ≡ false) × (Ok v ≡ decided ts x)
-    by false e = (refl, e)
-    by true e = let z : ◌≡◌ {A = ℕ} 0 1 = cc in absurd (omega arith)
+passed_on t ts v x e = (grind arith, grind arith)
 
 -- tests before others
 pub decided_err_more : {A : Type 0} (w : Why) (ts us : List Test) (x : A) → Err w ≡ decided ts x → Err w ≡ decided (ts ++ us) x
-decided_err_more w [] us x e = let z : ◌≡◌ {A = ℕ} 0 1 = cc in absurd (omega arith)
-decided_err_more w (t ∷ ts) us x e = by t.fails e (decided_err_more w ts us x)
-  where
-    by : (b : Bool) → Err w ≡ cond b (Err t.why) (decided ts x) → (Err w ≡ decided ts x → Err w ≡ decided (ts ++ us) x) → Err w ≡ cond b (Err t.why) (decided (ts ++ us) x)
-    by true e rest = e
-    by false e rest = rest e
+decided_err_more w [] us x e = cc
+decided_err_more w (t ∷ ts) us x e = grind (arith, decided_err_more w ts us x)
 
 pub decided_ok_more : {A B : Type 0} (v x : A) (ts us : List Test) (y : B) → Ok v ≡ decided ts x → decided (ts ++ us) y ≡ decided us y
 decided_ok_more v x [] us y e = refl
-decided_ok_more v x (t ∷ ts) us y e = by t.fails e (decided_ok_more v x ts us y)
-  where
-    by : (b : Bool) → Ok v ≡ cond b (Err t.why) (decided ts x) → (Ok v ≡ decided ts x → decided (ts ++ us) y ≡ decided us y) → cond b (Err t.why) (decided (ts ++ us) y) ≡ decided us y
-    by true e rest = let z : ◌≡◌ {A = ℕ} 0 1 = cc in absurd (omega arith)
-    by false e rest = rest e
+decided_ok_more v x (t ∷ ts) us y e = grind (arith, decided_ok_more v x ts us y)
 
 -- what is known of a refusing store serves for another fact
 pub asked_refused : {E : Type 0} (e : Refusal E) (P P' Q : Type 0) → (P → P') → Where (leb 12 (number e)) P Q → Where (leb 12 (number e)) P' Q

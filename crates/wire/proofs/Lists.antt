@@ -1,10 +1,9 @@
 -- Laws of `last`, `front`, `raised` and `written`. Stores and the builder are proved by these.
-use Rattle.std.proofs.Common.{◌≡◌, ℕ, ◌+◌, ◌-◌, ◌<◌, ◌≤◌, min, max, Bool, true, false, cond, List, [], ◌∷◌, ◌++◌, length, get_or, take, drop, Some, None, sym, ap, ◌∙◌, inl, inr, append_assoc, arith, length-append, length-drop, take-append-drop, length-take}
+use Rattle.std.proofs.Common.{◌≡◌, ℕ, ◌+◌, ◌-◌, ◌<◌, ◌≤◌, min, max, Bool, true, false, cond, List, [], ◌++◌, length, get_or, take, drop, Some, None, sym, ap, ◌∙◌, inl, inr, append_assoc, arith, length-append, length-drop, take-append-drop, length-take}
 use lib.ListN.{length-replicate, replicate-append-replicate}
-use lib.Seq.{drop-append-add}
 use borrow.Rule.Slice.PartMut.{put_mid}
 use Rattle.std.specs.List.{slice_get}
-use Rattle.std.proofs.lemmas.List.{drop-drop, drop-take, drop_at, drop_all, take_at, drop-append-le, drop-replicate, replicate_more, take-append-le, take_all, take-take, get_or-drop, get_or-take}
+use Rattle.std.proofs.lemmas.List.{drop-drop, drop-take, drop_at, drop_all, take_at, drop-append-le, drop-replicate, take-append-le, take_all, take-take, get_or-drop, get_or-take}
 use Rattle.std.proofs.lemmas.Bool.{false≢true, cases_lt}
 use Rattle.std.proofs.lemmas.Option.{slice_get-get_or, slice_get_past}
 use Rattle.wire.specs.Bytes.{zeros, last, front, raised, written, unspent, filled}
@@ -44,10 +43,6 @@ last_none xs = drop_all (length xs - 0) xs (omega arith)
 pub part_last : (n : ℕ) (xs : List ℕ) (from count : ℕ) → from ≡ length xs - n → length xs ≤ from + count → take count (drop from xs) ≡ last n xs
 part_last n xs from count e h =
     take_all count (drop from xs) (simp length-drop (omega arith)) ∙ ap (λ (k : ℕ). drop k xs) e
-
-pub last_last : (m n : ℕ) (xs : List ℕ) → m ≤ n → n ≤ length xs → last m (last n xs) ≡ last m xs
-last_last m n xs h k =
-    sym (last_append m (front n xs) (last n xs) (rw length_last_le h)) ∙ ap (last m) (front_last n xs)
 
 -- the place k of xs is the place i of its last n bytes
 pub nth_last : (n : ℕ) (xs : List ℕ) (i k : ℕ) → k ≡ length xs - n + i → i < length (last n xs) → slice_get (last n xs) i ≡ Some (get_or xs k 0)
@@ -184,36 +179,6 @@ last_zeroed n m xs from count j zs same long e k h =
     ap (last m) parts
     ∙ last_at (take from xs) (zeros count ++ last n xs) m (simp (length-append, length-replicate, length-drop) (omega arith))
 
-pub written_none : (xs : List ℕ) (start : ℕ) → written xs start [] ≡ xs
-written_none xs start =
-    let same : start + 0 ≡ start = omega arith in
-    ap (λ (k : ℕ). take start xs ++ drop k xs) same ∙ take-append-drop start xs
-
--- one write right behind another
-pub written_written : (xs : List ℕ) (start : ℕ) (ys zs : List ℕ) (from : ℕ) → from ≡ start + length ys → start + length ys + length zs ≤ length xs
-    → written (written xs start ys) from zs ≡ written xs start (ys ++ zs)
-written_written xs start ys zs from e h =
-    let p = take start xs ++ ys in
-    let q = drop (start + length ys) xs in
-    let parts : written xs start ys ≡ p ++ q = sym (append_assoc (take start xs) ys q) in
-    let size : length p ≡ from = simp (length-append, length-take) (omega arith) in
-    let head : take from (p ++ q) ≡ p = take_at p q from size in
-    let far : from + length zs ≡ length p + length zs = omega arith in
-    let near : start + length ys + length zs ≡ start + length (ys ++ zs) = simp length-append (omega arith) in
-    let tail : drop (from + length zs) (p ++ q) ≡ drop (start + length (ys ++ zs)) xs =
-    ap (λ (k : ℕ). drop k (p ++ q)) far ∙ drop-append-add p q (length zs) ∙ drop-drop (length zs) (start + length ys) xs
-    ∙ ap (λ (k : ℕ). drop k xs) near in
-    ap (λ (us : List ℕ). written us from zs) parts
-    ∙ ap (λ (us : List ℕ). us ++ (zs ++ drop (from + length zs) (p ++ q))) head
-    ∙ ap (λ (us : List ℕ). p ++ (zs ++ us)) tail
-    ∙ simp append_assoc
-
-pub zeroed_more : (xs after : List ℕ) (start i : ℕ) → start + i < length xs → after ≡ written (written xs start (zeros i)) (start + i) (0 ∷ [])
-    → after ≡ written xs start (zeros (i + 1))
-zeroed_more xs after start i h e =
-    e ∙ written_written xs start (zeros i) (0 ∷ []) (start + i) (simp length-replicate (omega arith)) (simp length-replicate (omega arith))
-    ∙ ap (written xs start) (replicate_more i 0)
-
 -- a write that was taken
 pub put_done : (r : Bool) (xs ys zs : List ℕ) → r ≡ true → zs ≡ cond r xs ys → zs ≡ xs
 put_done true xs ys zs t e = e
@@ -230,54 +195,11 @@ last_prepended u start ys after bs e is =
     ap (last (u + length bs)) (is ∙ split_written u start ys bs e)
     ∙ last_at (take start ys) (bs ++ last u ys) (u + length bs) (simp (length-append, length-drop) (omega arith))
 
-pub front_prepended : (u start : ℕ) (ys after bs old : List ℕ) → start + length bs + u ≡ length ys → after ≡ written ys start bs
-    → front u ys ≡ raised (length (front u ys)) old → front (u + length bs) after ≡ unspent (length (front (u + length bs) after)) (length bs) old
-front_prepended u start ys after bs old e is grown =
-    let cut : front (u + length bs) after ≡ take start ys =
-    ap (front (u + length bs)) (is ∙ split_written u start ys bs e)
-    ∙ front_at (take start ys) (bs ++ last u ys) (u + length bs) (simp (length-append, length-drop) (omega arith)) in
-    let size : length (front (u + length bs) after) ≡ start = ap length cut ∙ length-take start ys ∙ omega arith in
-    let whole : length (front u ys) ≡ start + length bs = length_front u ys ∙ omega arith in
-    let same : take start ys ≡ unspent start (length bs) old =
-    sym (take-take start (length ys - u) ys (omega arith))
-    ∙ ap (take start) grown
-    ∙ ap (λ (k : ℕ). take start (raised k old)) whole in
-    cut ∙ same ∙ ap (λ (k : ℕ). unspent k (length bs) old) (sym size)
-
 -- growth alone
 pub unspent_none : (xs old : List ℕ) → xs ≡ raised (length xs) old → xs ≡ unspent (length xs) 0 old
 unspent_none xs old grown =
     let same : length xs ≡ length xs + 0 = omega arith in
     sym (take_all (length xs) xs (omega arith)) ∙ ap (take (length xs)) (grown ∙ ap (λ (k : ℕ). raised k old) same)
-
--- the first of the last u bytes zeroed and given back
-module _ (n u count back : ℕ) (ys after : List ℕ) (start : ℕ) (eu : u ≡ length (last n ys)) (eb : back ≡ min count u) (es : start ≡ length ys - u) (is : after ≡ written ys start (zeros back)) where
-  released : after ≡ (front n ys ++ zeros back) ++ drop count (last n ys)
-  released =
-      let long = length_last n ys in
-      let at : start ≡ length ys - n = omega arith in
-      let tail : drop (start + length (zeros back)) ys ≡ drop count (last n ys) =
-      elim (cases_lt u count) as (λ _. drop (start + length (zeros back)) ys ≡ drop count (last n ys)) [
-        | inl h ↦ drop_all _ ys (simp length-replicate (omega arith)) ∙ sym (drop_all count (last n ys) (omega arith))
-        | inr h ↦ (
-            let same : start + length (zeros back) ≡ length ys - n + count = simp length-replicate (omega arith) in
-            ap (λ (k : ℕ). drop k ys) same ∙ sym (drop-drop count (length ys - n) ys))
-      ] in
-      is
-      ∙ ap (λ (k : ℕ). take k ys ++ (zeros back ++ drop (start + length (zeros back)) ys)) at
-      ∙ ap (λ (us : List ℕ). front n ys ++ (zeros back ++ us)) tail
-      ∙ sym (append_assoc (front n ys) (zeros back) (drop count (last n ys)))
-
-  pub last_released : last (u - back) after ≡ drop count (last n ys)
-  last_released =
-      ap (last (u - back)) released ∙ last_at (front n ys ++ zeros back) (drop count (last n ys)) (u - back) (simp length-drop (omega (arith, length_last n ys)))
-
-  pub front_released : front (u - back) after ≡ front n ys ++ zeros (min count (length (last n ys)))
-  front_released =
-      let same : back ≡ min count (length (last n ys)) = omega arith in
-      ap (front (u - back)) released
-      ∙ front_at (front n ys ++ zeros back) (drop count (last n ys)) (u - back) (simp length-drop (omega (arith, length_last n ys)))
-      ∙ ap (λ (k : ℕ). front n ys ++ zeros k) same
 
 -- a store at the front of a slice
 

@@ -10,10 +10,6 @@ length_le zero v = refl
 length_le (suc zero) v = refl
 length_le (suc (suc n)) v = length_push (le (suc n) v) _ ∙ (let h = length_le (suc n) v in omega arith)
 
-pub octets_push : (bs : List ℕ) (b : ℕ) → Octets bs → b < 256 → Octets (bs ++ (b ∷ []))
-octets_push [] b h k = (k, tt)
-octets_push (x ∷ xs) b h k = (h.0, octets_push xs b h.1 k)
-
 pub octets_append : (xs ys : List ℕ) → Octets xs → Octets ys → Octets (xs ++ ys)
 octets_append [] ys h k = k
 octets_append (x ∷ xs) ys h k = (h.0, octets_append xs ys h.1 k)
@@ -21,7 +17,7 @@ octets_append (x ∷ xs) ys h k = (h.0, octets_append xs ys h.1 k)
 pub octets_le : (n v : ℕ) → Octets (le n v)
 octets_le zero v = tt
 octets_le (suc zero) v = (mod-lt v (omega arith), tt)
-octets_le (suc (suc n)) v = octets_push (le (suc n) v) _ (octets_le (suc n) v) (mod-lt _ (omega arith))
+octets_le (suc (suc n)) v = octets_append (le (suc n) v) _ (octets_le (suc n) v) (mod-lt _ (omega arith), tt)
 
 pow256_pos : (n : ℕ) → 0 < 256 ^ n
 pow256_pos zero = omega arith

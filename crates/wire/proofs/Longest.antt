@@ -1,36 +1,35 @@
 -- No longer prefix than the walk's is the UTF-8 of characters.
-use Rattle.std.proofs.Common.{◌≡◌, ℕ, suc, ◌+◌, ◌/◌, ◌%◌, ◌<◌, ◌≤◌, Bool, true, false, ◌&&◌, eqb, ltb, ◌⊎◌, List, [], ◌∷◌, ◌++◌, length, take, drop, IsUtf8, sym, refl, ap, ◌∙◌, subst, inl, inr, ⊎_elim, append_assoc, arith, length-append, take-append-drop, length-take}
+use Rattle.std.proofs.Common.{◌≡◌, ℕ, suc, ◌+◌, ◌/◌, ◌%◌, ◌<◌, ◌≤◌, true, ltb, ◌⊎◌, List, [], ◌∷◌, ◌++◌, length, take, drop, IsUtf8, sym, refl, ap, ◌∙◌, subst, inl, inr, ⊎_elim, append_assoc, arith, length-append, take-append-drop, length-take}
 use lib.Utf8.{scalar, scalars, next, encode, encodes, scalar_cases}
-use Rattle.std.proofs.lemmas.Bool.Decides.{eqb_tells}
+use Rattle.std.specs.Str.{IsValidUpTo}
+use Rattle.std.proofs.lemmas.Bool.Decides.{nat_tests}
+use Rattle.std.proofs.lemmas.List.{take_all}
+use Rattle.std.proofs.lemmas.Str.{encode_ascii}
 use Rattle.wire.specs.Utf8.{within, following, least, most, walk, longest_prefix}
-use Rattle.wire.proofs.Conds.{cond-true, cond-false, ltb_yes}
+use Rattle.std.proofs.lemmas.Bool.{cond-true, lt-ltb, cases_lt, and_parts}
 use Rattle.wire.proofs.Walk.{free, within_yes}
-use Rattle.wire.proofs.WellFormed.{one, two, three, four, split, Second, lead, following_one, following_two, following_three, onward}
+use Rattle.wire.proofs.WellFormed.{two, three, four, Second, lead, following_one, following_two, following_three, onward, longest_short, utf8_longest}
 
 least_is : (b y : ℕ) → Second b y → least b ≤ y
-least_is b y s = ⊎_elim (λ t. let a = s.at_E0 t.1 in subst (λ (x : ℕ). x ≤ y) (sym (cond-true (eqb b 0xE0) 0xA0 _ t.0)) a)
-    (λ t. ⊎_elim (λ v. let a = s.at_F0 v.1 in subst (λ (x : ℕ). x ≤ y) (sym (cond-false (eqb b 0xE0) 0xA0 _ t.0 ∙ cond-true (eqb b 0xF0) 0x90 0x80 v.0)) a)
-    (λ v. subst (λ (x : ℕ). x ≤ y) (sym (cond-false (eqb b 0xE0) 0xA0 _ t.0 ∙ cond-false (eqb b 0xF0) 0x90 0x80 v.0)) s.low) (eqb_tells b 0xF0)) (eqb_tells b 0xE0)
+least_is b y s = grind (arith, nat_tests)
 
 most_is : (b y : ℕ) → Second b y → y ≤ most b
-most_is b y s = ⊎_elim (λ t. let a = s.at_ED t.1 in subst (λ (x : ℕ). y ≤ x) (sym (cond-true (eqb b 0xED) 0x9F _ t.0)) a)
-    (λ t. ⊎_elim (λ v. let a = s.at_F4 v.1 in subst (λ (x : ℕ). y ≤ x) (sym (cond-false (eqb b 0xED) 0x9F _ t.0 ∙ cond-true (eqb b 0xF4) 0x8F 0xBF v.0)) a)
-    (λ v. subst (λ (x : ℕ). y ≤ x) (sym (cond-false (eqb b 0xED) 0x9F _ t.0 ∙ cond-false (eqb b 0xF4) 0x8F 0xBF v.0)) s.high) (eqb_tells b 0xF4)) (eqb_tells b 0xED)
+most_is b y s = grind (arith, nat_tests)
 
 second_step : (b y n at : ℕ) (bs : List ℕ) → Second b y → 0x80 ≤ b → following b ≡ suc n → walk 0 0 0 0 at (b ∷ y ∷ bs) ≡ walk n 0x80 0xBF at (at + 1 + 1) bs
 second_step b y n at bs s h f =
     sym (lead b n at _ (y ∷ bs) h f refl) ∙ cond-true (within (least b) (most b) y) _ _ (within_yes (least b) (most b) y (least_is b y s) (most_is b y s))
 
 more_step : (n z ended at : ℕ) (bs : List ℕ) → z < 64 → walk (suc n) 0x80 0xBF ended at ((128 + z) ∷ bs) ≡ walk n 0x80 0xBF ended (at + 1) bs
-more_step n z ended at bs h = cond-true (within 0x80 0xBF (128 + z)) _ _ (within_yes 0x80 0xBF (128 + z) (omega arith) (omega arith))
+more_step n z ended at bs h = grind (arith, nat_tests)
 
 -- a walk goes past a character
 passes : (c at : ℕ) (rest : List ℕ) → scalar c ≡ true → walk 0 0 0 0 at (encode c ++ rest) ≡ walk 0 0 0 0 (at + length (encode c)) rest
 passes c at rest s =
     let sc = scalar_cases c s in
     ⊎_elim
-    (λ h. ap (λ l. walk 0 0 0 0 at (l ++ rest)) (one c h) ∙ cond-true (ltb c 0x80) _ _ (ltb_yes c 0x80 h) ∙ free 0 0 at 0 0 0 (at + 1) rest
-    ∙ ap (λ l. walk 0 0 0 0 (at + length l) rest) (sym (one c h)))
+    (λ h. ap (λ l. walk 0 0 0 0 at (l ++ rest)) (encode_ascii c h) ∙ cond-true (ltb c 0x80) _ _ (lt-ltb c 0x80 h) ∙ free 0 0 at 0 0 0 (at + 1) rest
+    ∙ ap (λ l. walk 0 0 0 0 (at + length l) rest) (sym (encode_ascii c h)))
     (λ g. ⊎_elim
     (λ h.
     let b = 192 + c / 64 in
@@ -55,18 +54,14 @@ passes c at rest s =
     ap (λ l. walk 0 0 0 0 at (l ++ rest)) (four c g3) ∙ second_step b y 2 at (next (c / 64) ∷ next c ∷ rest) t (omega arith) (following_three b (omega arith) (omega arith))
     ∙ more_step 1 ((c / 64) % 64) at (at + 1 + 1) (next c ∷ rest) (omega arith) ∙ more_step 0 (c % 64) at (at + 1 + 1 + 1) rest (omega arith)
     ∙ free 0x80 0xBF at 0 0 0 (at + 1 + 1 + 1 + 1) rest ∙ ap (λ (n : ℕ). walk 0 0 0 0 n rest) (omega arith) ∙ ap (λ l. walk 0 0 0 0 (at + length l) rest) (sym (four c g3)))
-    (split c 65536))
-    (split c 2048))
-    (split c 128)
-
-both : (x y : Bool) → (x && y) ≡ true → (x ≡ true) × (y ≡ true)
-both true y e = (refl, e)
-both false y e = let z : ◌≡◌ {A = ℕ} 0 1 = cc in absurd (omega arith)
+    (cases_lt c 65536))
+    (cases_lt c 2048))
+    (cases_lt c 128)
 
 passes_all : (cs : List ℕ) (at : ℕ) (rest : List ℕ) → scalars cs ≡ true → walk 0 0 0 0 at (encodes cs ++ rest) ≡ walk 0 0 0 0 (at + length (encodes cs)) rest
 passes_all [] at rest s = ap (λ (n : ℕ). walk 0 0 0 0 n rest) (omega arith)
 passes_all (c ∷ cs) at rest s =
-    let t = both (scalar c) (scalars cs) s in
+    let t = and_parts (scalar c) (scalars cs) s in
     ap (walk 0 0 0 0 at) (append_assoc (encode c) (encodes cs) rest) ∙ passes c at (encodes cs ++ rest) t.0 ∙ passes_all cs (at + length (encode c)) rest t.1
     ∙ ap (λ (n : ℕ). walk 0 0 0 0 n rest) (let e = length-append (encode c) (encodes cs) in omega arith)
 
@@ -82,3 +77,15 @@ longest bs m h u =
     let k = 0 + length (encodes cs) in
     let o : k ≤ walk 0 0 0 0 k (drop m bs) = subst (λ (x : ℕ). k ≤ x) (free 0 0 k 0 0 0 k (drop m bs)) (onward 0 0 0 k k (drop m bs) (omega arith)) in
     omega (arith, w, o, n)
+
+-- so it is where the library's check of text stops
+pub at_error : (bs : List ℕ) (n m : ℕ) → IsValidUpTo bs n → m ≤ length bs → IsUtf8 (take m bs) → m ≤ n
+at_error bs n m v h u = ⊎_elim (λ l. absurd (v.longest m l u)) (λ l. l) (cases_lt n m)
+
+pub longest_at_error : (bs : List ℕ) (n : ℕ) → IsValidUpTo bs n → n ≡ longest_prefix bs
+longest_at_error bs n v =
+    omega (arith, v.short, longest bs n (omega (arith, v.short)) v.front, at_error bs n (longest_prefix bs) v (longest_short bs) (utf8_longest bs))
+
+-- and of a text it is all
+pub longest_whole : (bs : List ℕ) → IsUtf8 bs → length bs ≡ longest_prefix bs
+longest_whole bs u = omega (arith, longest bs (length bs) (omega arith) (subst IsUtf8 (sym (take_all (length bs) bs (omega arith))) u), longest_short bs)

@@ -1,7 +1,8 @@
 -- What the law of a kind gives of a row of its values.
-use Rattle.std.proofs.Common.{◌≡◌, ℕ, zero, suc, ◌+◌, ◌*◌, ◌^◌, ◌<◌, ◌≤◌, Bool, true, false, ◌&&◌, T, ltb, List, [], ◌∷◌, ◌++◌, map, length, get_or, drop, Some, None, Option, sym, refl, ap, ◌∙◌, subst, mul-le-mul_right, suc-mul, mul-le-mul_left, arith, length-drop}
+use Rattle.std.proofs.Common.{◌≡◌, ℕ, zero, suc, ◌+◌, ◌*◌, ◌^◌, ◌<◌, ◌≤◌, true, ◌&&◌, T, ltb, List, [], ◌∷◌, ◌++◌, map, length, get_or, drop, Some, None, Option, sym, refl, ap, ◌∙◌, subst, mul-le-mul_right, suc-mul, mul-le-mul_left, arith, length-drop}
 use Rattle.std.specs.List.{AllByRecursion}
 use Rattle.std.proofs.lemmas.List.{append_assoc, drop_more, length-append, length-map, length-replicate}
+use Rattle.std.proofs.lemmas.Bool.{and_parts}
 use Rattle.std.proofs.lemmas.Bool.Decides.{nat_tests}
 use Rattle.wire.specs.Bytes.{zeros}
 use Rattle.wire.specs.Words.{le, word}
@@ -10,10 +11,6 @@ use Rattle.wire.specs.Pushed.{Pushed, Layout, Of, pushed}
 use Rattle.wire.specs.Layouts.{row, all_stand, vector_padding, vector_bytes, vector_space, string_object_bytes, string_space, push_padding, pushed_bytes, pushed_offset, element}
 use Rattle.wire.specs.ReadBack.{Fit, with_vector, ReadsBack}
 use Rattle.wire.proofs.LittleEndian.{word_back}
-
-and_true : (a b : Bool) → (a && b) ≡ true → (a ≡ true) × (b ≡ true)
-and_true true b e = (refl, e)
-and_true false b e = let z : ◌≡◌ {A = ℕ} 0 1 = cc in absurd (omega arith)
 
 -- an offset that passes its test still leads into a longer used space
 points_stand : (o : Option ℕ) (used more : ℕ) → stands o used ≡ true → used ≤ more → more < 2 ^ 31 → Points o more
@@ -87,7 +84,7 @@ module _ {V S : Type 0} (m : Meaning V S) (law : Law m) where
       let rest : List ℕ = behind ++ used in
       let long = length_code xs (length used) in
       let len : length rest ≡ length behind + length used = length-append behind used in
-      let stood = (and_true (stands (m.offset x) (length used)) _ stand).0 in
+      let stood = (and_parts (stands (m.offset x) (length used)) _ stand).0 in
       let back = law.back x front rest fit.0 (points_stand (m.offset x) (length used) (length rest) stood (omega arith) (omega arith)) in
       let start : length front + 0 * m.size ≡ length front = omega arith in
       let total : length front + (suc (length xs) * m.size + length used) ≡ length front + (m.size + length rest) = omega arith in
@@ -98,7 +95,7 @@ module _ {V S : Type 0} (m : Meaning V S) (law : Law m) where
       let rest : List ℕ = behind ++ used in
       let first : List ℕ = m.bytes x (length behind + length used) in
       let l : length (front ++ first) ≡ length front + m.size = let b = law.long x (length behind + length used) in simp length-append (omega arith) in
-      let stood = (and_true (stands (m.offset x) (length used)) _ stand).1 in
+      let stood = (and_parts (stands (m.offset x) (length used)) _ stand).1 in
       let later = reads_at xs (front ++ first) used i d fit.1 stood (omega arith) (omega arith) in
       let at : length front + suc i * m.size ≡ length (front ++ first) + i * m.size = let j = suc-mul i m.size in omega arith in
       let total : length front + (suc (length xs) * m.size + length used) ≡ length (front ++ first) + (length xs * m.size + length used) = omega arith in
@@ -107,7 +104,7 @@ module _ {V S : Type 0} (m : Meaning V S) (law : Law m) where
   stand_more : (xs : List Pushed) (used more : ℕ) → all_stand xs used ≡ true → used ≤ more → all_stand xs more ≡ true
   stand_more [] used more e h = refl
   stand_more (x ∷ xs) used more e h =
-      let both = and_true (stands x.offset used) (all_stand xs used) e in
+      let both = and_parts (stands x.offset used) (all_stand xs used) e in
       let one = stands_more x.offset used more both.0 h in
       let rest = stand_more xs used more both.1 h in
       rw (one, rest)

@@ -1,34 +1,30 @@
 -- Bytes that are well-formed by table 3-7 are the UTF-8 of characters.
-use Rattle.std.proofs.Common.{◌≡◌, ℕ, zero, suc, ◌+◌, ◌-◌, ◌*◌, ◌/◌, ◌<◌, ◌≤◌, Bool, true, false, ◌&&◌, eqb, ltb, leb, ◌⊎◌, List, [], ◌∷◌, ◌++◌, length, take, IsUtf8, sym, refl, ap, ◌∙◌, subst, inl, inr, ⊎_elim, arith, length-append}
+use Rattle.std.proofs.Common.{◌≡◌, ℕ, zero, suc, ◌+◌, ◌-◌, ◌*◌, ◌/◌, ◌<◌, ◌≤◌, true, eqb, ltb, ◌⊎◌, List, [], ◌∷◌, ◌++◌, length, take, IsUtf8, sym, refl, ap, ◌∙◌, subst, inl, inr, ⊎_elim, arith, length-append}
 use lib.Utf8.{scalar, next, encode, low_scalar}
 use lib.Seq.{take-append-add}
 use Rattle.std.proofs.lemmas.List.{take_all}
-use Rattle.std.proofs.lemmas.Str.{IsUtf8-append, IsUtf8-nil, IsUtf8-encode}
-use Rattle.std.proofs.lemmas.Bool.Decides.{leb_tells, eqb_tells, nat_tests}
+use Rattle.std.proofs.lemmas.Str.{encode_ascii, IsUtf8-append, IsUtf8-nil, IsUtf8-encode}
+use Rattle.std.proofs.lemmas.Bool.Decides.{nat_tests}
 use Rattle.wire.specs.Utf8.{within, following, least, most, walk, longest_prefix, well_formed}
-use Rattle.wire.proofs.Conds.{cond-true, cond-false, leb_yes, ltb_yes, ltb_no, eqb_no}
+use Rattle.std.proofs.lemmas.Bool.{cond-true, cond-false, lt-ltb, le-ltb, ne_eqb, cases_lt, cases_Bool, cond_both}
 use Rattle.wire.proofs.Walk.{free}
 
 -- ---- the bytes of a character, by its range
 
 pub two : (c : ℕ) → 128 ≤ c → c < 2048 → encode c ≡ (192 + c / 64) ∷ next c ∷ []
 unfolding encode
-two c l h = cond-false (ltb c 128) _ _ (ltb_no c 128 l) ∙ cond-true (ltb c 2048) _ _ (ltb_yes c 2048 h)
+two c l h = grind (arith, nat_tests)
 
 pub three : (c : ℕ) → 2048 ≤ c → c < 65536 → encode c ≡ (224 + c / 4096) ∷ next (c / 64) ∷ next c ∷ []
 unfolding encode
-three c l h = cond-false (ltb c 128) _ _ (ltb_no c 128 (omega arith)) ∙ cond-false (ltb c 2048) _ _ (ltb_no c 2048 l) ∙ cond-true (ltb c 65536) _ _ (ltb_yes c 65536 h)
+three c l h = grind (arith, nat_tests)
 
 pub four : (c : ℕ) → 65536 ≤ c → encode c ≡ (240 + c / 262144) ∷ next (c / 4096) ∷ next (c / 64) ∷ next c ∷ []
 unfolding encode
-four c l = cond-false (ltb c 128) _ _ (ltb_no c 128 (omega arith)) ∙ cond-false (ltb c 2048) _ _ (ltb_no c 2048 (omega arith)) ∙ cond-false (ltb c 65536) _ _ (ltb_no c 65536 l)
-
-pub one : (c : ℕ) → c < 128 → encode c ≡ c ∷ []
-unfolding encode
-one c h = cond-true (ltb c 128) _ _ (ltb_yes c 128 h)
+four c l = grind (arith, nat_tests)
 
 high_scalar : (c : ℕ) → 57344 ≤ c → c < 1114112 → scalar c ≡ true
-high_scalar c l u = cond-false (ltb c 55296) _ _ (ltb_no c 55296 (omega arith)) ∙ (λ k. leb_yes 57344 c l k && ltb_yes c 1114112 u k)
+high_scalar c l u = grind (arith, nat_tests)
 
 a_char : (l : List ℕ) (c : ℕ) → scalar c ≡ true → l ≡ encode c → IsUtf8 l
 a_char l c s e = subst IsUtf8 (sym e) (IsUtf8-encode c s)
@@ -44,12 +40,7 @@ pub record Second (b y : ℕ) : Type 0 where
   pub at_F4 : b ≡ 0xF4 → y ≤ 0x8F
 
 within_tells : (lo hi y : ℕ) → within lo hi y ≡ true → (lo ≤ y) × (y ≤ hi)
-within_tells lo hi y h =
-    ⊎_elim (λ p. ⊎_elim (λ q. (p.1, q.1)) (λ q. absurd (no (sym h ∙ ap (λ t. leb lo y && t) q.0 ∙ ap (λ t. t && false) p.0))) (leb_tells y hi))
-    (λ p. absurd (no (sym h ∙ ap (λ t. t && leb y hi) p.0))) (leb_tells lo y)
-  where
-    no : true ≡ false → ⊥
-    no e = let z : ◌≡◌ {A = ℕ} 0 1 = cc in omega arith
+within_tells lo hi y h = (grind (arith, nat_tests), grind (arith, nat_tests))
 
 pub second : (b y : ℕ) → within (least b) (most b) y ≡ true → Second b y
 second b y h =
@@ -94,24 +85,12 @@ four_bytes b y z w l h ylo yhi f g f' g' lo hi =
     a_char _ c (high_scalar c (omega arith) hi) ((λ k. p k ∷ q k ∷ r k ∷ t k ∷ []) ∙ sym (four c lo))
 
 of_three : (b y z : ℕ) → 0xE0 ≤ b → b < 0xF0 → Second b y → 0x80 ≤ z → z ≤ 0xBF → IsUtf8 (b ∷ y ∷ z ∷ [])
-of_three b y z l h s f g =
-    three_bytes b y z l h s.low s.high f g
-    (⊎_elim (λ t. let a = s.at_E0 t.1 in omega (arith, a, t.1)) (λ t. let n = t.1 in omega (arith, s.low)) (eqb_tells b 0xE0))
-    (⊎_elim (λ t. let u = t.1 in inl (omega (arith, s.high)))
-    (λ t. ⊎_elim (λ v. let a = s.at_ED v.1 in inl (omega (arith, a, v.1))) (λ v. let n = v.1 in let m = t.1 in inr (omega (arith, s.low))) (eqb_tells b 0xED))
-    (leb_tells b 0xEC))
+of_three b y z l h s f g = three_bytes b y z l h s.low s.high f g (grind arith) (grind arith)
 
 of_four : (b y z w : ℕ) → 0xF0 ≤ b → b < 0xF5 → Second b y → 0x80 ≤ z → z ≤ 0xBF → 0x80 ≤ w → w ≤ 0xBF → IsUtf8 (b ∷ y ∷ z ∷ w ∷ [])
-of_four b y z w l h s f g f' g' =
-    four_bytes b y z w l h s.low s.high f g f' g'
-    (⊎_elim (λ v. let a = s.at_F0 v.1 in omega (arith, a, v.1)) (λ v. let n = v.1 in omega (arith, s.low)) (eqb_tells b 0xF0))
-    (⊎_elim (λ v. let a = s.at_F4 v.1 in omega (arith, a, v.1)) (λ v. let n = v.1 in omega (arith, s.high)) (eqb_tells b 0xF4))
+of_four b y z w l h s f g f' g' = four_bytes b y z w l h s.low s.high f g f' g' (grind arith) (grind arith)
 
 -- ---- a walk that comes to the end
-
-pub by_bool : {P : Type 0} (b : Bool) → (b ≡ true → P) → (b ≡ false → P) → P
-by_bool true f g = f refl
-by_bool false f g = g refl
 
 record Ahead (n lo hi ended at k : ℕ) (bs : List ℕ) : Type 0 where
   first : ℕ
@@ -123,9 +102,10 @@ record Ahead (n lo hi ended at k : ℕ) (bs : List ℕ) : Type 0 where
 ahead : (n lo hi ended at k : ℕ) (bs : List ℕ) → ended < k → walk (suc n) lo hi ended at bs ≡ k → Ahead n lo hi ended at k bs
 ahead n lo hi ended at k [] h e = absurd (omega arith)
 ahead n lo hi ended at k (y ∷ rest) h e =
-    by_bool (within lo hi y)
+    ⊎_elim
     (λ t. record { first = y; rest = rest; is = refl; fits = t; goes = sym (cond-true (within lo hi y) _ _ t) ∙ e })
     (λ t. let f = sym (cond-false (within lo hi y) (walk n 0x80 0xBF ended (at + 1) rest) ended t) ∙ e in absurd (omega arith))
+    (cases_Bool (within lo hi y))
 
 -- how many bytes follow a first byte, row by row
 pub following_one : (b : ℕ) → 0xC2 ≤ b → b < 0xE0 → following b ≡ 1
@@ -138,7 +118,7 @@ pub following_three : (b : ℕ) → 0xF0 ≤ b → b < 0xF5 → following b ≡ 
 following_three b l h = grind (arith, nat_tests)
 
 following_none : (b : ℕ) → (b < 0xC2) ⊎ (0xF5 ≤ b) → following b ≡ 0
-following_none b s = ⊎_elim (λ l. grind (arith, nat_tests)) (λ l. grind (arith, nat_tests)) s
+following_none b s = grind (arith, nat_tests)
 
 data Row (b : ℕ) : Type 0 where
   ascii : b < 0x80 → Row b
@@ -147,39 +127,31 @@ data Row (b : ℕ) : Type 0 where
   of_3 : 0xF0 ≤ b → b < 0xF5 → Row b
   none : 0x80 ≤ b → (b < 0xC2) ⊎ (0xF5 ≤ b) → Row b
 
-pub split : (a b : ℕ) → (a < b) ⊎ (b ≤ a)
-split a b = ⊎_elim (λ p. inl p.1) (λ p. let q = p.1 in inr (omega arith)) (leb_tells (suc a) b)
-
 row : (b : ℕ) → Row b
 row b =
     ⊎_elim ascii
     (λ h. ⊎_elim (λ l. none h (inl l))
-    (λ k. ⊎_elim (of_1 k) (λ m. ⊎_elim (of_2 m) (λ n. ⊎_elim (of_3 n) (λ o. none h (inr o)) (split b 0xF5)) (split b 0xF0)) (split b 0xE0))
-    (split b 0xC2))
-    (split b 0x80)
+    (λ k. ⊎_elim (of_1 k) (λ m. ⊎_elim (of_2 m) (λ n. ⊎_elim (of_3 n) (λ o. none h (inr o)) (cases_lt b 0xF5)) (cases_lt b 0xF0)) (cases_lt b 0xE0))
+    (cases_lt b 0xC2))
+    (cases_lt b 0x80)
 
 -- from the first byte of a character that is not ASCII
 pub lead : (b n at k : ℕ) (bs : List ℕ) → 0x80 ≤ b → following b ≡ suc n → walk 0 0 0 0 at (b ∷ bs) ≡ k → walk (suc n) (least b) (most b) at (at + 1) bs ≡ k
 lead b n at k bs h f e =
     (λ i. walk (sym f i) (least b) (most b) at (at + 1) bs)
-    ∙ sym (cond-false (ltb b 0x80) _ _ (ltb_no b 0x80 h) ∙ cond-false (eqb (following b) 0) _ _ (eqb_no (following b) 0 (λ q. omega arith))) ∙ e
+    ∙ sym (cond-false (ltb b 0x80) _ _ (le-ltb b 0x80 h) ∙ cond-false (eqb (following b) 0) _ _ (ne_eqb (following b) 0 (λ q. omega arith))) ∙ e
 
 -- a walk does not go back behind the last end
 pub onward : (n lo hi ended at : ℕ) (bs : List ℕ) → ended ≤ at → ended ≤ walk n lo hi ended at bs
 onward zero lo hi ended at [] h = h
 onward (suc n) lo hi ended at [] h = omega arith
 onward zero lo hi ended at (b ∷ bs) h =
-    by_bool (ltb b 0x80)
-    (λ t. let r : at ≤ walk 0 0 0 at (at + 1) bs = onward 0 0 0 at (at + 1) bs (omega arith) in
-    subst (λ (x : ℕ). ended ≤ x) (sym (cond-true (ltb b 0x80) _ _ t)) (omega arith))
-    (λ t. by_bool (eqb (following b) 0)
-    (λ u. subst (λ (x : ℕ). ended ≤ x) (sym (cond-false (ltb b 0x80) _ _ t ∙ cond-true (eqb (following b) 0) _ _ u)) h)
-    (λ u. let r : at ≤ walk (following b) (least b) (most b) at (at + 1) bs = onward (following b) (least b) (most b) at (at + 1) bs (omega arith) in
-    subst (λ (x : ℕ). ended ≤ x) (sym (cond-false (ltb b 0x80) _ _ t ∙ cond-false (eqb (following b) 0) _ _ u)) (omega arith)))
+    cond_both (ltb b 0x80) _ _ (λ x. ended ≤ x)
+    (λ _. omega (arith, onward 0 0 0 at (at + 1) bs (omega arith)))
+    (λ _. cond_both (eqb (following b) 0) _ _ (λ x. ended ≤ x) (λ _. h)
+    (λ _. omega (arith, onward (following b) (least b) (most b) at (at + 1) bs (omega arith))))
 onward (suc n) lo hi ended at (b ∷ bs) h =
-    by_bool (within lo hi b)
-    (λ t. subst (λ (x : ℕ). ended ≤ x) (sym (cond-true (within lo hi b) _ _ t)) (onward n 0x80 0xBF ended (at + 1) bs (omega arith)))
-    (λ t. subst (λ (x : ℕ). ended ≤ x) (sym (cond-false (within lo hi b) _ _ t)) (omega arith))
+    cond_both (within lo hi b) _ _ (λ x. ended ≤ x) (λ _. onward n 0x80 0xBF ended (at + 1) bs (omega arith)) (λ _. omega arith)
 
 -- where a walk from at ends, and that what it passed is UTF-8
 record Front (at : ℕ) (bs : List ℕ) : Type 0 where
@@ -209,8 +181,8 @@ front (suc m) at (b ∷ bs) h =
     ⊎_elim
     (λ further. elim (row b) [
       | ascii l ↦
-          after at (at + 1) (b ∷ []) (b ∷ bs) bs refl refl (a_char _ b (low_scalar b (omega arith)) (sym (one b l))) (front m (at + 1) bs (omega arith))
-          (cond-true (ltb b 0x80) _ _ (ltb_yes b 0x80 l) ∙ free 0 0 at 0x80 0xBF at (at + 1) bs)
+          after at (at + 1) (b ∷ []) (b ∷ bs) bs refl refl (a_char _ b (low_scalar b (omega arith)) (sym (encode_ascii b l))) (front m (at + 1) bs (omega arith))
+          (cond-true (ltb b 0x80) _ _ (lt-ltb b 0x80 l) ∙ free 0 0 at 0x80 0xBF at (at + 1) bs)
       | of_1 l u ↦
           let s = ahead 0 (least b) (most b) at (at + 1) k bs further (lead b 0 at k bs (omega arith) (following_one b l u) refl) in
           let c = second b s.first s.fits in
@@ -235,10 +207,10 @@ front (suc m) at (b ∷ bs) h =
           (of_four b s.first t.first v.first l u c d.0 d.1 f.0 f.1)
           (front m (at + 1 + 1 + 1 + 1) v.rest (omega (arith, ap length s.is, ap length t.is, ap length v.is))) (sym v.goes)
       | none l u ↦
-          stays at (b ∷ bs) (cond-false (ltb b 0x80) _ _ (ltb_no b 0x80 l) ∙ cond-true (eqb (following b) 0) at (walk (following b) (least b) (most b) at (at + 1) bs) (ap (λ k'. eqb k' 0) (following_none b u)))
+          stays at (b ∷ bs) (cond-false (ltb b 0x80) _ _ (le-ltb b 0x80 l) ∙ cond-true (eqb (following b) 0) at (walk (following b) (least b) (most b) at (at + 1) bs) (ap (λ k'. eqb k' 0) (following_none b u)))
     ])
     (λ still. stays at (b ∷ bs) (omega arith))
-    (split at k)
+    (cases_lt at k)
 
 -- the longest prefix is UTF-8
 pub utf8_longest : (bs : List ℕ) → IsUtf8 (take (longest_prefix bs) bs)
@@ -248,10 +220,12 @@ utf8_longest bs =
     let e : f.count ≡ walk 0 0 0 0 0 bs = omega (arith, f.ends) in
     subst (λ (n : ℕ). IsUtf8 (take n bs)) e f.text
 
+pub longest_short : (bs : List ℕ) → longest_prefix bs ≤ length bs
+unfolding longest_prefix
+longest_short bs = let f = front (length bs) 0 bs (omega arith) in omega (arith, f.ends, f.short)
+
 pub utf8_from_well_formed : (bs : List ℕ) → well_formed bs ≡ true → IsUtf8 bs
 unfolding well_formed
 utf8_from_well_formed bs h =
-    subst IsUtf8 (⊎_elim (λ p. let q = p.1 in ap (λ (n : ℕ). take n bs) q ∙ take_all (length bs) bs (omega arith)) (λ p. absurd (no (sym h ∙ p.0))) (eqb_tells (longest_prefix bs) (length bs))) (utf8_longest bs)
-  where
-    no : true ≡ false → ⊥
-    no e = let z : ◌≡◌ {A = ℕ} 0 1 = cc in omega arith
+    let whole : length bs ≤ longest_prefix bs = grind (arith, nat_tests) in
+    subst IsUtf8 (take_all (longest_prefix bs) bs whole) (utf8_longest bs)

@@ -1,9 +1,6 @@
 // The identifier of a finished buffer.
 ghost use Rattle.std.specs.Prelude.{◌≡◌};
-ghost use Rattle.std.specs.Str.{bytes_eq};
 ghost use Rattle.views.specs.Identifier.{has_identifier, number};
-
-use kinds::follow::contains;
 
 // Why it is not told whether a buffer has an identifier.
 #[derive(Clone, Copy, Debug, PartialEq, Eq)]
@@ -15,6 +12,7 @@ pub enum IdentifierError {
 }
 
 impl IdentifierError {
+    // The number by which documents and tools name the refusal.
     pub fn number(&self) -> u32
         ensures { result ≡ number self.now }
     {
@@ -23,12 +21,6 @@ impl IdentifierError {
             IdentifierError::RangeOutOfBounds { .. } => 15,
         }
     }
-}
-
-fn same(a: &[u8], b: &[u8]) -> bool
-    ensures { result ≡ bytes_eq a.now b.now }
-{
-    a == b
 }
 
 // Whether the buffer has the identifier.
@@ -43,11 +35,11 @@ pub fn buffer_has_identifier(
         return Err(IdentifierError::Identifier);
     }
     let at = if size_prefixed { 8 } else { 4 };
-    if !contains(data, at, 4) {
-        return Err(IdentifierError::RangeOutOfBounds {
+    let found = data
+        .get(at..at + 4)
+        .ok_or(IdentifierError::RangeOutOfBounds {
             start: 0,
             end: at + 4,
-        });
-    }
-    Ok(same(ident, &data[at..at + 4]))
+        })?;
+    Ok(ident == found)
 }

@@ -54,10 +54,7 @@ impl<'a> Table<'a> {
         if o == 0 {
             return None;
         }
-        // A length that is read is known to be below 2^63, so that the sum fits.
-        let buf = self.buf;
-        let _len = buf.len();
-        T::follow(buf, self.loc + o)
+        T::follow(self.buf, self.loc + o)
     }
 }
 

@@ -33,10 +33,8 @@ impl<'a, T> Vector<'a, T> {
         ensures value { result.now ≡ element_bytes self.now.size self.now.buf.now self.now.loc }
         ensures place { result.ref_ptr ≡ (self.now.buf.ref_ptr.0, self.now.buf.ref_ptr.1 + (self.now.loc + 4)) }
     {
-        let len = self.len();
-        let buf = self.buf;
-        let _len = buf.len();
-        &buf[self.loc + 4..self.loc + 4 + self.size * len]
+        let at = self.loc + 4;
+        &self.buf[at..at + self.size * self.len()]
     }
 }
 
@@ -50,9 +48,7 @@ impl<'a, T: Element> Vector<'a, T> {
             return None;
         }
         let size = T::size();
-        let Some(len) = size.checked_mul(read_u32(buf, loc) as usize) else {
-            return None;
-        };
+        let len = size.checked_mul(read_u32(buf, loc) as usize)?;
         if !contains(buf, loc + 4, len) {
             return None;
         }
@@ -74,9 +70,7 @@ impl<'a, T: Follow<'a>> Vector<'a, T> {
         if idx >= self.len() {
             return None;
         }
-        let buf = self.buf;
-        let _len = buf.len();
-        T::follow(buf, self.loc + 4 + self.size * idx)
+        T::follow(self.buf, self.loc + 4 + self.size * idx)
     }
 }
 
@@ -84,30 +78,22 @@ impl<'a, T: Follow<'a>> Vector<'a, T>
 where
     T::Inner: Copy,
 {
+    // By hand: it meets the elements in the Rust's order, and one that cannot be read ends it, which the
+    // library's search has no way to say.
     fn halved<K: KeyOrder<T::Inner>>(&self, key: &K) -> Option<T::Inner>
         ensures value { Looked (T.Follow.borrows self.now.buf) T.Follow.means K.KeyOrder.key K.KeyOrder.order (K.KeyOrder.sought key.now) (element_of T.Follow.reads self.now.size self.now.buf.now self.now.loc) (word 4 self.now.buf.now self.now.loc) result }
         ensures borrowed { IfSome result (T.Follow.borrows self.now.buf) }
         ensures sound { IfSome result (λ v. K.KeyOrder.order.cmp (K.KeyOrder.key v) (K.KeyOrder.sought key.now) ≡ Equal) }
     {
-        if self.is_empty() {
-            return None;
-        }
         let mut left: usize = 0;
-        let mut right = self.len() - 1;
+        let mut right = self.len().checked_sub(1)?;
         while left <= right {
             let mid = (left + right) / 2;
-            let Some(value) = self.get(mid) else {
-                return None;
-            };
+            let value = self.get(mid)?;
             match key.key_compare_with_value(&value) {
                 Ordering::Equal => return Some(value),
                 Ordering::Less => left = mid + 1,
-                Ordering::Greater => {
-                    if mid == 0 {
-                        return None;
-                    }
-                    right = mid - 1;
-                }
+                Ordering::Greater => right = mid.checked_sub(1)?,
             }
         }
         None

@@ -13,10 +13,7 @@ impl<'a> VTable<'a> {
         ensures test { is_some result ≡ vtable_inside buf.now loc }
         ensures some { IfSome result (λ v. (v.buf ≡ buf.entry) × (v.loc ≡ loc)) }
     {
-        if !contains(buf, loc, 2) {
-            return None;
-        }
-        if !contains(buf, loc, read_u16(buf, loc) as usize) {
+        if !contains(buf, loc, 2) || !contains(buf, loc, read_u16(buf, loc) as usize) {
             return None;
         }
         Some(VTable { buf, loc })
@@ -41,9 +38,10 @@ impl<'a> VTable<'a> {
         ensures { result ≡ object_size self.now.buf.now self.now.loc }
     {
         if self.num_bytes() < 4 {
-            return 0;
+            0
+        } else {
+            read_u16(self.buf, self.loc + 2) as usize
         }
-        read_u16(self.buf, self.loc + 2) as usize
     }
 
     // The distance that a slot stores; 0 at what is no slot, and beyond the vtable's length.
@@ -61,9 +59,7 @@ impl<'a> VTable<'a> {
         ensures value { result.now ≡ vtable_bytes self.now.buf.now self.now.loc }
         ensures place { result.ref_ptr ≡ (self.now.buf.ref_ptr.0, self.now.buf.ref_ptr.1 + self.now.loc) }
     {
-        let len = self.num_bytes();
-        let buf = self.buf;
-        &buf[self.loc..self.loc + len]
+        &self.buf[self.loc..self.loc + self.num_bytes()]
     }
 }
 
@@ -71,18 +67,12 @@ impl<'a> VTable<'a> {
 pub fn field_index_to_field_offset(field_id: u16) -> Option<u16>
     ensures { result ≡ slot_of_field field_id }
 {
-    if field_id > 32765 {
-        return None;
-    }
-    Some((field_id + 2) * 2)
+    field_id.checked_add(2)?.checked_mul(2)
 }
 
 // The field of a slot; nothing before the first.
 pub fn field_offset_to_field_index(field_o: u16) -> Option<u16>
     ensures { result ≡ field_of_slot field_o }
 {
-    if field_o < 4 {
-        return None;
-    }
-    Some(field_o / 2 - 2)
+    (field_o / 2).checked_sub(2)
 }

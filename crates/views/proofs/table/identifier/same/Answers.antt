@@ -1,9 +1,0 @@
-use Rattle.std.proofs.lemmas.Slice.Eq.{slice_eq-Decides, bytes_eq-Decides}
-use Rattle.std.proofs.lemmas.Bool.Decides.{same_from_decides, Decides-eqb}
-use Rattle.views.proofs.table.identifier.same.Goals as goal
-
-pub returns : goal.returns
-returns c =
-    let a = c.args.a.now in
-    let b = c.args.b.now in
-    same_from_decides c.eq.result _ (slice_eq-Decides Decides-eqb a b c.eq.result c.eq.ensures) (bytes_eq-Decides a b)
