@@ -1,11 +1,8 @@
 // An adjustment of the space between two glyphs.
-ghost use Rattle.std.specs.Prelude.{◌≡◌, T};
-ghost use Rattle.font.specs.Laws.{kern_law};
+ghost use Rattle.font.specs.Laws.{kern_law, kern_plain};
 ghost use Rattle.font.specs.Structs.{kern};
 
-use kinds::Kind;
-use kinds::follow::contains;
-use kinds::push::copy_part;
+use kinds::endian_scalar::EndianScalar;
 
 #[derive(Clone, Copy, Debug, PartialEq, Eq)]
 pub struct Kern {
@@ -14,50 +11,32 @@ pub struct Kern {
     pub value: i16,
 }
 
-impl Kind for Kern {
-    type Inner = Kern;
+impl EndianScalar for Kern {
+    type Scalar = [u8; 6];
 
     ghost meaning = { kern };
 
     ghost lawful = { kern_law };
 
-    fn size() -> usize {
-        6
-    }
+    ghost plain = { kern_plain };
 
     fn alignment() -> usize {
         2
     }
 
-    fn offset(&self) -> Option<u32> {
-        None
+    fn to_little_endian(self) -> [u8; 6] {
+        let [l0, l1] = self.left.to_le_bytes();
+        let [r0, r1] = self.right.to_le_bytes();
+        let [v0, v1] = self.value.to_le_bytes();
+        [l0, l1, r0, r1, v0, v1]
     }
 
-    fn push(&self, dst: &mut [u8], _used: usize, from: usize) {
-        copy_part(&to_little_endian(*self), from, dst);
-    }
-
-    fn follow(buf: &[u8], loc: usize) -> Option<Kern> {
-        if !contains(buf, loc, 6) {
-            return None;
+    fn from_little_endian(v: [u8; 6]) -> Kern {
+        let [l0, l1, r0, r1, v0, v1] = v;
+        Kern {
+            left: u16::from_le_bytes([l0, l1]),
+            right: u16::from_le_bytes([r0, r1]),
+            value: i16::from_le_bytes([v0, v1]),
         }
-        let left = u16::from_le_bytes([buf[loc], buf[loc + 1]]);
-        let right = u16::from_le_bytes([buf[loc + 2], buf[loc + 3]]);
-        let value = i16::from_le_bytes([buf[loc + 4], buf[loc + 5]]);
-        Some(Kern { left, right, value })
     }
-
-    fn equals(&self, other: &Kern) -> bool {
-        self.left == other.left && self.right == other.right && self.value == other.value
-    }
-}
-
-fn to_little_endian(k: Kern) -> [u8; 6]
-    ensures bytes { result ≡ kern.bytes k 0 }
-    ensures fits { T (kern.fits k) }
-{
-    let [l0, l1] = k.left.to_le_bytes();
-    let [r0, r1] = k.right.to_le_bytes();
-    let [v0, v1] = k.value.to_le_bytes();
-    [l0, l1, r0, r1, v0, v1]
 }

@@ -6,7 +6,7 @@ ghost use Rattle.wire.specs.Bytes.{filled};
 pub fn copy_part(src: &[u8], from: usize, dst: &mut [u8])
     ensures { dst.new ≡ filled dst.old (drop from src.now) }
 {
-    let start = from.min(src.len());
-    let count = (src.len() - start).min(dst.len());
-    dst[0..count].copy_from_slice(&src[start..start + count]);
+    let rest = src.get(from..).unwrap_or(&[]);
+    let count = rest.len().min(dst.len());
+    dst[..count].copy_from_slice(&rest[..count]);
 }

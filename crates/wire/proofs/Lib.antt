@@ -1,6 +1,7 @@
 pub mod Lists
 pub mod LittleEndian
 pub mod Laws
+pub mod Plain
 pub mod Rows
 pub mod Conds
 pub mod Decided

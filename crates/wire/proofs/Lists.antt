@@ -6,7 +6,7 @@ use Rattle.std.specs.List.{slice_get}
 use Rattle.std.proofs.lemmas.List.{drop-drop, drop-take, drop_at, drop_all, take_at, drop-append-le, drop-replicate, take-append-le, take_all, take-take, get_or-drop, get_or-take}
 use Rattle.std.proofs.lemmas.Bool.{false≢true, cases_lt}
 use Rattle.std.proofs.lemmas.Option.{slice_get-get_or, slice_get_past}
-use Rattle.wire.specs.Bytes.{zeros, last, front, raised, written, unspent, filled}
+use Rattle.wire.specs.Bytes.{zeros, last, front, raised, written, unspent}
 
 pub length_last : (n : ℕ) (xs : List ℕ) → length (last n xs) ≡ min n (length xs)
 length_last n xs = simp length-drop (omega arith)
@@ -298,28 +298,6 @@ front_front m n xs =
     let long = length_front n xs in
     let cut : length (front n xs) - m ≡ length xs - (m + n) = omega arith in
     ap (λ (k : ℕ). take k (front n xs)) cut ∙ take-take (length xs - (m + n)) (length xs - n) xs (omega arith)
-
--- a part copied over the beginning of a list, as the checker reads it
-pub filled_part : (xs ys new : List ℕ) (from start count many k : ℕ) → start ≡ min from (length ys) → count ≡ min (length ys - start) (length xs)
-    → new ≡ take many (drop start ys) → many ≡ count → k ≡ count → new ++ drop k xs ≡ filled xs (drop from ys)
-filled_part xs ys new from start count many k es ec en em ek =
-    let long : length (drop from ys) ≡ length ys - from = length-drop from ys in
-    let same : drop start ys ≡ drop from ys =
-    elim (cases_lt from (length ys)) as (λ _. drop start ys ≡ drop from ys) [
-      | inl h ↦ (let e : start ≡ from = omega arith in ap (λ (n : ℕ). drop n ys) e)
-      | inr h ↦ drop_all start ys (omega arith) ∙ sym (drop_all from ys h)
-    ] in
-    let head : take many (drop from ys) ≡ take (length xs) (drop from ys) =
-    elim (cases_lt (length ys - from) (length xs)) as (λ _. take many (drop from ys) ≡ take (length xs) (drop from ys)) [
-      | inl h ↦ take_all many (drop from ys) (omega arith) ∙ sym (take_all (length xs) (drop from ys) (omega arith))
-      | inr h ↦ (let e : many ≡ length xs = omega arith in ap (λ (n : ℕ). take n (drop from ys)) e)
-    ] in
-    let tail : drop k xs ≡ drop (length (drop from ys)) xs =
-    elim (cases_lt (length ys - from) (length xs)) as (λ _. drop k xs ≡ drop (length (drop from ys)) xs) [
-      | inl h ↦ (let e : k ≡ length (drop from ys) = omega arith in ap (λ (n : ℕ). drop n xs) e)
-      | inr h ↦ drop_all k xs (omega arith) ∙ sym (drop_all (length (drop from ys)) xs (omega arith))
-    ] in
-    ap (λ (us : List ℕ). us ++ drop k xs) (en ∙ ap (take many) same ∙ head) ∙ ap (λ (us : List ℕ). take (length xs) (drop from ys) ++ us) tail
 
 -- what stands before bytes that are written just before the last u
 pub front_placed : (u start : ℕ) (ys after bs : List ℕ) → start + length bs + u ≡ length ys → after ≡ written ys start bs

@@ -6,6 +6,7 @@ pub mod Scalars
 pub mod Offsets
 pub mod Places
 pub mod Structs
+pub mod Plain
 pub mod Pushed
 pub mod Layouts
 pub mod ReadBack
