@@ -1,4 +1,5 @@
 pub mod Walks
+pub mod Steps
 pub mod Law
 pub mod Counted
 pub mod Wider

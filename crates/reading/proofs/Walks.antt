@@ -1,5 +1,5 @@
 -- How one walk follows another.
-use Rattle.std.proofs.Common.{◌≡◌, ℕ, ◌+◌, ◌^◌, ◌<◌, ◌≤◌, Bool, true, false, cond, leb, List, [], length, refl, ap, subst, arith}
+use Rattle.std.proofs.Common.{◌≡◌, ℕ, ◌+◌, ◌^◌, ◌<◌, ◌≤◌, Bool, true, false, cond, leb, List, [], ◌∷◌, ◌++◌, length, sym, refl, ap, ◌∙◌, subst, arith}
 use Rattle.std.proofs.lemmas.Bool.{leb-true}
 use Rattle.reading.specs.declared.options.Counters.{Counters}
 use Rattle.reading.specs.declared.options.VerifierOptions.{VerifierOptions}
@@ -7,17 +7,37 @@ use Rattle.reading.specs.declared.invalid.TraceRecord.{TraceRecord}
 use Rattle.reading.specs.declared.invalid.InvalidFlatbuffer.{InvalidFlatbuffer}
 use Rattle.reading.specs.declared.invalid.InvalidFlatbuffer.TheVariants.{RangeOutOfBounds}
 use Rattle.reading.specs.Input.{saturated}
-use Rattle.reading.specs.Reading.{accepted, refused, Walk, then, after, continue, refuse, ranged, spend}
+use Rattle.reading.specs.Reading.{Outcome, accepted, refused, Walk, then, after, continue, limit, refuse, ranged, risen, spend}
 
-pub then_accepted : (w w' : Walk) (b : List ℕ) (o : VerifierOptions) (c : Counters) → (w b o c).outcome ≡ accepted →
-    then w w' b o c ≡ after (w b o c).ranges (w' b o (w b o c).counters)
-unfolding then
-then_accepted w w' b o c e = ap (λ out. continue out (w b o c) (w' b o)) e
+pub apart : (f : InvalidFlatbuffer) (t : List TraceRecord) → refused f t ≡ accepted → ⊥
+apart f t e = let z : ◌≡◌ {A = ℕ} 0 1 = cc in omega arith
 
-pub then_refused : (w w' : Walk) (b : List ℕ) (o : VerifierOptions) (c : Counters) (f : InvalidFlatbuffer) (t : List TraceRecord) → (w b o c).outcome ≡ refused f t →
-    then w w' b o c ≡ w b o c
-unfolding then
-then_refused w w' b o c f t e = ap (λ out. continue out (w b o c) (w' b o)) e
+module _ (w w' : Walk) (b : List ℕ) (o : VerifierOptions) (c : Counters) where
+  pub then_accepted : (w b o c).outcome ≡ accepted → then w w' b o c ≡ after (w b o c).ranges (w' b o (w b o c).counters)
+  unfolding then
+  then_accepted e = ap (λ out. continue out (w b o c) (w' b o)) e
+
+  pub then_refused : (f : InvalidFlatbuffer) (t : List TraceRecord) → (w b o c).outcome ≡ refused f t → then w w' b o c ≡ w b o c
+  unfolding then
+  then_refused f t e = ap (λ out. continue out (w b o c) (w' b o)) e
+
+  -- the first of two accepts, and then the second
+  pub both_accept : (then w w' b o c).outcome ≡ accepted → ((w b o c).outcome ≡ accepted) × ((w' b o (w b o c).counters).outcome ≡ accepted)
+  unfolding then
+  both_accept e = go (w b o c).outcome refl e
+    where
+      go : (out : Outcome) → (w b o c).outcome ≡ out → (continue out (w b o c) (w' b o)).outcome ≡ accepted
+          → ((w b o c).outcome ≡ accepted) × ((w' b o (w b o c).counters).outcome ≡ accepted)
+      go accepted i k = (i, k)
+      go (refused f t) i k = let no : ⊥ = apart f t (sym i ∙ k) in elim no [ ]
+
+pub risen_accepted : (d : TraceRecord) (out : Outcome) → risen d out ≡ accepted → out ≡ accepted
+risen_accepted d accepted e = refl
+risen_accepted d (refused f t) e = go (limit f) e
+  where
+    go : (x : Bool) → cond x (refused f t) (refused f (t ++ (d ∷ []))) ≡ accepted → refused f t ≡ accepted
+    go true i = i
+    go false i = let no : ⊥ = apart f (t ++ (d ∷ [])) i in elim no [ ]
 
 pub ranged_fits : (p n : ℕ) (b : List ℕ) (o : VerifierOptions) (c : Counters) → (ranged p n b o c).outcome ≡ accepted → saturated p n ≤ length b
 unfolding ranged
@@ -28,7 +48,7 @@ ranged_fits p n b o c e = go (leb (saturated p n) (length b)) refl e
 
     go : (t : Bool) → leb (saturated p n) (length b) ≡ t → (g (leb (saturated p n) (length b)) b o c).outcome ≡ accepted → saturated p n ≤ length b
     go true i k = leb-true (saturated p n) (length b) i
-    go false i k = let z : refused (RangeOutOfBounds p (saturated p n)) [] ≡ accepted = subst (λ t. (g t b o c).outcome ≡ accepted) i k in let q : ◌≡◌ {A = ℕ} 0 1 = cc in let no : ⊥ = omega arith in elim no [ ]
+    go false i k = let no : ⊥ = apart (RangeOutOfBounds p (saturated p n)) [] (subst (λ t. (g t b o c).outcome ≡ accepted) i k) in elim no [ ]
 
 pub reach : (p n l : ℕ) → l < 2 ^ 63 → saturated p n ≤ l → p + n ≤ l
 unfolding saturated

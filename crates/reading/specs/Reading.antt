@@ -297,10 +297,14 @@ unfoldable mutual
   variants unread key q = accept
   variants (variant k sh vs) key q = cond (key == k) (within (UnionVariant k q) (reading sh q)) (variants vs key q)
 
+-- Nothing was met yet.
+abbrev pub unmet : Counters
+unmet = record { depth = 0; num_tables = 0; apparent_size = 0 }
+
 -- The reading of an input whose root has this shape.
 unfoldable pub root : Shape → List ℕ → VerifierOptions → Reading
-root s b o = reading (offset s) 0 b o (record { depth = 0; num_tables = 0; apparent_size = 0 })
+root s b o = reading (offset s) 0 b o unmet
 
 -- The same behind a size prefix, which is not read.
 unfoldable pub size_prefixed_root : Shape → List ℕ → VerifierOptions → Reading
-size_prefixed_root s b o = reading (offset s) 4 b o (record { depth = 0; num_tables = 0; apparent_size = 0 })
+size_prefixed_root s b o = reading (offset s) 4 b o unmet

@@ -14,7 +14,7 @@ pub struct VerifierOptions {
 }
 
 // What a verifier has met so far.
-#[derive(Clone, Copy, Debug, PartialEq, Eq)]
+#[derive(Clone, Copy, Debug, Default, PartialEq, Eq)]
 pub struct Counters {
     pub depth: usize,
     pub num_tables: usize,

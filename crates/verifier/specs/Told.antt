@@ -1,12 +1,12 @@
 -- What a call of a verifier answers and leaves, given what it is to read.
 use Rattle.std.specs.Prelude.{◌≡◌, ℕ, List, [], IfOk, Result}
+use Rattle.std.specs.Borrow.{MutBor}
 use Rattle.reading.specs.declared.invalid.TraceRecord.{TraceRecord}
 use Rattle.reading.specs.declared.invalid.InvalidFlatbuffer.{InvalidFlatbuffer}
-use Rattle.reading.specs.declared.options.Counters.{Counters}
 use Rattle.reading.specs.declared.options.VerifierOptions.{VerifierOptions}
 use Rattle.reading.specs.Law.{Inside}
-use Rattle.reading.specs.Outcomes.{answer, counted, layer, trace_of, written}
-use Rattle.reading.specs.Reading.{Reading, Walk, reading, vtable, vtable_len}
+use Rattle.reading.specs.Outcomes.{answer, counted, trace_of, written}
+use Rattle.reading.specs.Reading.{Reading, Walk, reading, unmet, vtable, vtable_len}
 use Rattle.reading.specs.Shape.{Shape}
 use Rattle.verifier.specs.declared.verifier.TableVerifier.{TableVerifier}
 use Rattle.verifier.specs.declared.verifier.Verdict.{Verdict}
@@ -16,25 +16,25 @@ use Rattle.verifier.specs.declared.verifier.Verifier.{Verifier}
 abbrev pub bytes : Verifier → List ℕ
 bytes v = v.buffer.now
 
--- Nothing was met yet.
-abbrev pub unmet : Counters
-unmet = record { depth = 0; num_tables = 0; apparent_size = 0 }
-
--- A verifier that begins.
-pub record Begun (b : List ℕ) (o : VerifierOptions) (v : Verifier) : Type 0 where
+-- A verifier that begins, and was lent this trace.
+pub record Begun (b : List ℕ) (o : VerifierOptions) (t : MutBor (List TraceRecord)) (v : Verifier) : Type 0 where
   pub buffer : bytes v ≡ b
   pub opts : v.opts ≡ o
   pub counters : v.counters ≡ unmet
+  pub trace : v.trace.now ≡ t.now
   pub traced : v.traced ≡ 0
+  pub lent : v.trace.ghost_name ≡ t.ghost_name
 
--- It has the same input and options.
+-- It has the same input and options, and writes into the same trace.
 pub record Kept (v v' : Verifier) : Type 0 where
   pub buffer : bytes v' ≡ bytes v
   pub opts : v'.opts ≡ v.opts
+  pub lent : v'.trace.ghost_name ≡ v.trace.ghost_name
 
 -- It begins anew.
 pub record Reset (v v' : Verifier) : Type 0 where
   pub counters : v'.counters ≡ unmet
+  pub trace : v'.trace.now ≡ v.trace.now
   pub traced : v'.traced ≡ 0
   pub kept : Kept v v'
 
@@ -46,23 +46,24 @@ run w v = w (bytes v) v.opts v.counters
 pub record Seen {X : Type 0} (w : Walk) (x : List ℕ → X) (r : Result X InvalidFlatbuffer) (v v' : Verifier) : Type 0 where
   pub result : r ≡ answer (run w v).outcome (x (bytes v))
   pub counters : v'.counters ≡ (run w v).counters
+  pub trace : v'.trace.now ≡ v.trace.now
   pub traced : v'.traced ≡ v.traced
   pub quiet : trace_of (run w v).outcome ≡ []
   pub kept : Kept v v'
 
--- A call that is lent the trace.
-pub record Told {X : Type 0} (w : Walk) (x : List ℕ → X) (r : Result X InvalidFlatbuffer) (v v' : Verifier) (t t' : List TraceRecord) : Type 0 where
+-- A call that writes the layers that its walk's fault rose through.
+pub record Told {X : Type 0} (w : Walk) (x : List ℕ → X) (r : Result X InvalidFlatbuffer) (v v' : Verifier) : Type 0 where
   pub result : r ≡ answer (run w v).outcome (x (bytes v))
   pub counters : v'.counters ≡ (run w v).counters
+  pub trace : v'.trace.now ≡ written (trace_of (run w v).outcome) v.trace.now v.traced
   pub traced : v'.traced ≡ counted (trace_of (run w v).outcome) v.traced
-  pub trace : t' ≡ written (trace_of (run w v).outcome) t v.traced
   pub kept : Kept v v'
 
--- A call that adds a layer.
-pub record Layered {X : Type 0} (r : Result X InvalidFlatbuffer) (d : TraceRecord) (v v' : Verifier) (t t' : List TraceRecord) : Type 0 where
+-- A call that writes these records.
+pub record Wrote (ds : List TraceRecord) (v v' : Verifier) : Type 0 where
   pub counters : v'.counters ≡ v.counters
-  pub traced : v'.traced ≡ counted (layer r d) v.traced
-  pub trace : t' ≡ written (layer r d) t v.traced
+  pub trace : v'.trace.now ≡ written ds v.trace.now v.traced
+  pub traced : v'.traced ≡ counted ds v.traced
   pub kept : Kept v v'
 
 -- The answer of a call that has none but that the walk accepts.

@@ -6,7 +6,6 @@ ghost use Rattle.verifier.specs.Told.{Seen, Told, done};
 
 use crate::verifier::{
     InvalidFlatbuffer, TableVerifier, TraceRecord, UnionVerifier, Verifiable, Verifier,
-    append_trace,
 };
 
 // What an absent field answers.
@@ -38,17 +37,13 @@ impl TableVerifier {
     pub fn visit_field<T: Verifiable>(
         self,
         v: &mut Verifier<'_>,
-        trace: &mut [TraceRecord],
         slot: u16,
         required: bool,
     ) -> Result<(), InvalidFlatbuffer>
-        ensures { Told (visit_field_of self.pos self.vtable self.vtable_len slot required (reading T.Verifiable.shape)) done result v.old v.new trace.old trace.new }
+        ensures { Told (visit_field_of self.pos self.vtable self.vtable_len slot required (reading T.Verifiable.shape)) done result v.old v.new }
     {
         match self.deref(v, slot)? {
-            Some(position) => {
-                let res = T::run_verifier(v, trace, position);
-                append_trace(v, trace, res, TraceRecord::TableField { slot, position })
-            }
+            Some(position) => v.visit::<T>(TraceRecord::TableField { slot, position }),
             None => missing(required, slot),
         }
     }
@@ -57,43 +52,34 @@ impl TableVerifier {
     pub fn visit_union<U: UnionVerifier>(
         self,
         v: &mut Verifier<'_>,
-        trace: &mut [TraceRecord],
         key: u16,
         value: u16,
         required: bool,
     ) -> Result<(), InvalidFlatbuffer>
-        ensures { Told (visit_union_of self.pos self.vtable self.vtable_len key value required (variants U.UnionVerifier.choices)) done result v.old v.new trace.old trace.new }
+        ensures { Told (visit_union_of self.pos self.vtable self.vtable_len key value required (variants U.UnionVerifier.choices)) done result v.old v.new }
     {
         let value_pos = self.deref(v, value)?;
         let key_pos = self.deref(v, key)?;
-        match key_pos {
-            None => match value_pos {
-                None => missing(required, value),
-                Some(_) => Err(InvalidFlatbuffer::InconsistentUnion { key, value }),
-            },
-            Some(k) => {
-                let discriminant = v.union_key(trace, key, k)?;
-                match value_pos {
-                    None => {
-                        if discriminant == 0 {
-                            missing(required, value)
-                        } else {
-                            Err(InvalidFlatbuffer::InconsistentUnion { key, value })
-                        }
-                    }
-                    Some(position) => {
-                        let res = U::verify_union(v, trace, discriminant, position);
-                        append_trace(
-                            v,
-                            trace,
-                            res,
-                            TraceRecord::TableField {
-                                slot: value,
-                                position,
-                            },
-                        )
-                    }
+        match (key_pos, value_pos) {
+            (None, None) => missing(required, value),
+            (None, Some(_)) => Err(InvalidFlatbuffer::InconsistentUnion { key, value }),
+            (Some(key_pos), None) => {
+                if v.union_key(key, key_pos)? == 0 {
+                    missing(required, value)
+                } else {
+                    Err(InvalidFlatbuffer::InconsistentUnion { key, value })
                 }
+            }
+            (Some(key_pos), Some(position)) => {
+                let discriminant = v.union_key(key, key_pos)?;
+                let res = U::verify_union(v, discriminant, position);
+                v.append_trace(
+                    res,
+                    TraceRecord::TableField {
+                        slot: value,
+                        position,
+                    },
+                )
             }
         }
     }

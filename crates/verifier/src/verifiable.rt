@@ -1,7 +1,7 @@
 // How the kinds that any schema has are verified.
 ghost use Rattle.reading.specs.Shape.{element, offset, offsets, skipped, string, vector};
 
-use crate::verifier::{InvalidFlatbuffer, TraceRecord, Verifiable, Verifier, append_trace};
+use crate::verifier::{InvalidFlatbuffer, TraceRecord, Verifiable, Verifier};
 use kinds::Kind;
 use kinds::names::{ForwardsUOffset, SkipSizePrefix, Str, VectorOf};
 
@@ -31,11 +31,7 @@ impl SimpleToVerifyInSlice for f64 {}
 impl<T: SimpleToVerifyInSlice> Verifiable for T {
     ghost shape = { element T.Kind.meaning.size T.Kind.meaning.alignment };
 
-    fn run_verifier(
-        v: &mut Verifier<'_>,
-        _trace: &mut [TraceRecord],
-        pos: usize,
-    ) -> Result<(), InvalidFlatbuffer> {
+    fn run_verifier(v: &mut Verifier<'_>, pos: usize) -> Result<(), InvalidFlatbuffer> {
         v.in_buffer(pos, T::size(), T::alignment())
     }
 }
@@ -43,36 +39,24 @@ impl<T: SimpleToVerifyInSlice> Verifiable for T {
 impl<T: Verifiable> Verifiable for ForwardsUOffset<T> {
     ghost shape = { offset T.Verifiable.shape };
 
-    fn run_verifier(
-        v: &mut Verifier<'_>,
-        trace: &mut [TraceRecord],
-        pos: usize,
-    ) -> Result<(), InvalidFlatbuffer> {
+    fn run_verifier(v: &mut Verifier<'_>, pos: usize) -> Result<(), InvalidFlatbuffer> {
         let distance = v.get_uoffset(pos)? as usize;
-        T::run_verifier(v, trace, distance.saturating_add(pos))
+        T::run_verifier(v, distance.saturating_add(pos))
     }
 }
 
 impl<T: Verifiable> Verifiable for SkipSizePrefix<T> {
     ghost shape = { skipped T.Verifiable.shape };
 
-    fn run_verifier(
-        v: &mut Verifier<'_>,
-        trace: &mut [TraceRecord],
-        pos: usize,
-    ) -> Result<(), InvalidFlatbuffer> {
-        T::run_verifier(v, trace, pos.saturating_add(4))
+    fn run_verifier(v: &mut Verifier<'_>, pos: usize) -> Result<(), InvalidFlatbuffer> {
+        T::run_verifier(v, pos.saturating_add(4))
     }
 }
 
 impl Verifiable for Str {
     ghost shape = { string };
 
-    fn run_verifier(
-        v: &mut Verifier<'_>,
-        _trace: &mut [TraceRecord],
-        pos: usize,
-    ) -> Result<(), InvalidFlatbuffer> {
+    fn run_verifier(v: &mut Verifier<'_>, pos: usize) -> Result<(), InvalidFlatbuffer> {
         let len = v.vector_range(pos, 1, 1)? as usize;
         v.text(pos.saturating_add(4), len)
     }
@@ -82,11 +66,7 @@ impl Verifiable for Str {
 impl<T: SimpleToVerifyInSlice> Verifiable for VectorOf<T> {
     ghost shape = { vector T.Kind.meaning.size T.Kind.meaning.alignment };
 
-    fn run_verifier(
-        v: &mut Verifier<'_>,
-        _trace: &mut [TraceRecord],
-        pos: usize,
-    ) -> Result<(), InvalidFlatbuffer> {
+    fn run_verifier(v: &mut Verifier<'_>, pos: usize) -> Result<(), InvalidFlatbuffer> {
         v.vector_range(pos, T::size(), T::alignment())?;
         Ok(())
     }
@@ -96,22 +76,12 @@ impl<T: SimpleToVerifyInSlice> Verifiable for VectorOf<T> {
 impl<T: Verifiable> Verifiable for VectorOf<ForwardsUOffset<T>> {
     ghost shape = { offsets T.Verifiable.shape };
 
-    fn run_verifier(
-        v: &mut Verifier<'_>,
-        trace: &mut [TraceRecord],
-        pos: usize,
-    ) -> Result<(), InvalidFlatbuffer> {
+    fn run_verifier(v: &mut Verifier<'_>, pos: usize) -> Result<(), InvalidFlatbuffer> {
         let len = v.vector_range(pos, 4, 4)? as usize;
         let start = pos.saturating_add(4);
-        for i in 0..len {
-            let position = start + 4 * i;
-            let res = <ForwardsUOffset<T>>::run_verifier(v, trace, position);
-            append_trace(
-                v,
-                trace,
-                res,
-                TraceRecord::VectorElement { index: i, position },
-            )?;
+        for index in 0..len {
+            let position = start + 4 * index;
+            v.visit::<ForwardsUOffset<T>>(TraceRecord::VectorElement { index, position })?;
         }
         Ok(())
     }

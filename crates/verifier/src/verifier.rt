@@ -1,27 +1,31 @@
 // The verifier: what it reads of an input, what it counts, and how a fault rises.
-ghost use Rattle.std.specs.Prelude.{◌≡◌, ◌+◌, ◌*◌, ◌^◌, ◌<◌, ◌≤◌, cond, length, IfOk, Ok, OnOk, slice_index, slice_set};
+ghost use Rattle.std.specs.Prelude.{◌≡◌, ◌+◌, ◌*◌, ◌^◌, ◌<◌, ◌≤◌, if◌then◌else◌, ◌||◌, length, Err, IfOk, Ok, OnOk, slice_index, slice_set};
 ghost use Rattle.reading.specs.Input.{saturated, u16_at, u32_at};
+ghost use Rattle.reading.specs.Outcomes.{layer as layer_of};
 ghost use Rattle.reading.specs.Law.{Inside};
-ghost use Rattle.reading.specs.Reading.{aligned, ascend, count_table, descend, enter, in_buffer, keeps, raised, ranged, reading, signed, text_of, union_key, variants, vector_range, visit_table, vtable, within, zero_at};
+ghost use Rattle.reading.specs.Reading.{aligned, ascend, count_table, descend, enter, in_buffer, keeps, position_of, raised, ranged, reading, signed, text_of, union_key, variants, vector_range, visit_table, vtable, within, zero_at};
 ghost use Rattle.reading.specs.Shape.{Shape, Variants};
 ghost use Rattle.reading.specs.declared.invalid.TraceRecord.TheVariants.{UnionVariant};
-ghost use Rattle.verifier.specs.Told.{Begun, Layered, Reset, Seen, Told, Verified, bytes, done, table_of};
+ghost use Rattle.verifier.specs.Told.{Begun, Reset, Seen, Told, Verified, Wrote, bytes, done, table_of};
 
 pub use reading::invalid::{InvalidFlatbuffer, TraceRecord};
 pub use reading::options::{Counters, VerifierOptions};
 use wire::utf8::valid_up_to;
 use wire::words::{byte_at, led_to, read_u16, read_u32};
 
-// An input, what to stop at, what was met so far, and how many layers a fault rose through.
+// An input, what to stop at, what was met so far, the lent trace, and how many layers a fault
+// rose through, whether or not the trace held them all.
 #[derive(Drop)]
 pub struct Verifier<'a> {
     buffer: &'a [u8],
     opts: VerifierOptions,
     counters: Counters,
+    trace: &'a mut [TraceRecord],
     traced: usize,
 }
 
 // A table that a verifier is in: where it stands, and where its vtable of a length does.
+// The verifier is passed beside it: what one that it borrowed ends as after a fault is not proved.
 #[derive(Clone, Copy, Debug, PartialEq, Eq)]
 pub struct TableVerifier {
     pub(crate) pos: usize,
@@ -42,12 +46,8 @@ pub trait Verifiable {
     // what is read of it
     ghost shape: { Shape };
 
-    fn run_verifier(
-        v: &mut Verifier<'_>,
-        trace: &mut [TraceRecord],
-        pos: usize,
-    ) -> Result<(), InvalidFlatbuffer>
-        ensures { Told (reading shape pos) done result v.old v.new trace.old trace.new };
+    fn run_verifier(v: &mut Verifier<'_>, pos: usize) -> Result<(), InvalidFlatbuffer>
+        ensures { Told (reading shape pos) done result v.old v.new };
 }
 
 // A union: what stands at its value, by its key.
@@ -55,13 +55,8 @@ pub trait UnionVerifier {
     // the variants by key
     ghost choices: { Variants };
 
-    fn verify_union(
-        v: &mut Verifier<'_>,
-        trace: &mut [TraceRecord],
-        key: u8,
-        pos: usize,
-    ) -> Result<(), InvalidFlatbuffer>
-        ensures { Told (variants choices key pos) done result v.old v.new trace.old trace.new };
+    fn verify_union(v: &mut Verifier<'_>, key: u8, pos: usize) -> Result<(), InvalidFlatbuffer>
+        ensures { Told (variants choices key pos) done result v.old v.new };
 }
 
 // Verifies what stands at a position: the answer, and what was counted and recorded by then.
@@ -73,8 +68,8 @@ pub fn verify_at<T: Verifiable>(
 ) -> Verdict
     ensures verified { Verified T.Verifiable.shape pos input.now opts.now result trace.old trace.new }
 {
-    let mut v = Verifier::new(opts, input);
-    let result = T::run_verifier(&mut v, trace, pos);
+    let mut v = Verifier::new(opts, input, trace);
+    let result = T::run_verifier(&mut v, pos);
     Verdict {
         result,
         counters: v.counters(),
@@ -82,6 +77,8 @@ pub fn verify_at<T: Verifiable>(
     }
 }
 
+// Writes a record in its place; a full trace stays.
+// An index and no `get_mut`: what is written through that is not known of the slice.
 fn record(trace: &mut [TraceRecord], n: usize, r: TraceRecord)
     ensures { trace.new ≡ slice_set trace.old n r }
 {
@@ -90,60 +87,33 @@ fn record(trace: &mut [TraceRecord], n: usize, r: TraceRecord)
     }
 }
 
-// Records the layer that a fault rises through; a limit's fault gets none.
-pub(crate) fn append_trace(
-    v: &mut Verifier<'_>,
-    trace: &mut [TraceRecord],
-    res: Result<(), InvalidFlatbuffer>,
-    d: TraceRecord,
+// Raises a counter. One that would pass 64 bits stays, and passes its limit.
+fn raise(
+    counter: &mut usize,
+    by: usize,
+    most: usize,
+    fault: InvalidFlatbuffer,
 ) -> Result<(), InvalidFlatbuffer>
-    ensures result { result ≡ res }
-    ensures layered { Layered res d v.old v.new trace.old trace.new }
+    ensures value { counter.new ≡ raised counter.old by }
+    ensures answer { result ≡ (if keeps counter.old by most then Ok tt else Err fault) }
 {
-    match res {
-        Ok(()) => Ok(()),
-        Err(e) => {
-            if e.is_limit() {
-                return Err(e);
-            }
-            record(trace, v.traced, d);
-            v.traced = v.traced.saturating_add(1);
-            Err(e)
-        }
-    }
-}
-
-// A counter raised, and whether it keeps to its limit: one that would pass 64 bits stays, and does not.
-fn raise(counter: usize, by: usize, most: usize) -> (usize, bool)
-    ensures value { result.0 ≡ raised counter by }
-    ensures test { result.1 ≡ keeps counter by most }
-{
-    match counter.checked_add(by) {
-        Some(n) => (n, n <= most),
-        None => (counter, false),
-    }
-}
-
-// Whether a zero byte stands there.
-fn zero_byte(b: &[u8], pos: usize) -> bool
-    ensures { result ≡ zero_at b.now pos }
-{
-    pos < b.len() && b[pos] == 0
+    *counter = counter.checked_add(by).ok_or(fault)?;
+    if *counter <= most { Ok(()) } else { Err(fault) }
 }
 
 impl<'a> Verifier<'a> {
-    pub fn new(opts: &VerifierOptions, buffer: &'a [u8]) -> Verifier<'a>
-        ensures { Begun buffer.now opts.now result }
+    pub fn new(
+        opts: &VerifierOptions,
+        buffer: &'a [u8],
+        trace: &'a mut [TraceRecord],
+    ) -> Verifier<'a>
+        ensures { Begun buffer.now opts.now trace.entry result }
     {
-        let counters = Counters {
-            depth: 0,
-            num_tables: 0,
-            apparent_size: 0,
-        };
         Verifier {
             buffer,
             opts: *opts,
-            counters,
+            counters: Counters::default(),
+            trace,
             traced: 0,
         }
     }
@@ -152,11 +122,7 @@ impl<'a> Verifier<'a> {
     pub fn reset(&mut self)
         ensures { Reset self.old self.new }
     {
-        self.counters = Counters {
-            depth: 0,
-            num_tables: 0,
-            apparent_size: 0,
-        };
+        self.counters = Counters::default();
         self.traced = 0;
     }
 
@@ -166,11 +132,39 @@ impl<'a> Verifier<'a> {
         self.counters
     }
 
-    // How many layers a fault rose through, whether or not the trace held them all.
     pub fn traced(&self) -> usize
         ensures { result ≡ self.now.traced }
     {
         self.traced
+    }
+
+    // Records the layer that a fault rises through; a limit's fault gets none.
+    pub(crate) fn append_trace<T>(
+        &mut self,
+        res: Result<T, InvalidFlatbuffer>,
+        layer: TraceRecord,
+    ) -> Result<T, InvalidFlatbuffer>
+        ensures result { result ≡ res }
+        ensures wrote { Wrote (layer_of res layer) self.old self.new }
+    {
+        if let Err(fault) = &res
+            && !fault.is_limit()
+        {
+            record(self.trace, self.traced, layer);
+            self.traced = self.traced.saturating_add(1);
+        }
+        res
+    }
+
+    // Verifies what stands where a layer begins, as that layer.
+    pub(crate) fn visit<T: Verifiable>(
+        &mut self,
+        layer: TraceRecord,
+    ) -> Result<(), InvalidFlatbuffer>
+        ensures { Told (within layer (reading T.Verifiable.shape (position_of layer))) done result self.old self.new }
+    {
+        let res = T::run_verifier(self, layer.position());
+        self.append_trace(res, layer)
     }
 
     // Refuses a position that is no multiple of the alignment; of 0, only 0 is one.
@@ -197,17 +191,12 @@ impl<'a> Verifier<'a> {
         if end > self.buffer.len() {
             return Err(InvalidFlatbuffer::RangeOutOfBounds { start: pos, end });
         }
-        let (total, keeps) = raise(
-            self.counters.apparent_size,
+        raise(
+            &mut self.counters.apparent_size,
             size,
             self.opts.max_apparent_size,
-        );
-        self.counters.apparent_size = total;
-        if keeps {
-            Ok(())
-        } else {
-            Err(InvalidFlatbuffer::ApparentSizeTooLarge)
-        }
+            InvalidFlatbuffer::ApparentSizeTooLarge,
+        )
     }
 
     // An element of this size and alignment stands there.
@@ -223,6 +212,7 @@ impl<'a> Verifier<'a> {
         self.range_in_buffer(pos, size)
     }
 
+    // A reader for each width: one over kinds would say an option of what is read, and be no plainer.
     pub fn get_u8(&mut self, pos: usize) -> Result<u8, InvalidFlatbuffer>
         ensures { Seen (in_buffer pos 1 1) (λ b. slice_index b pos) result self.old self.new }
     {
@@ -249,37 +239,32 @@ impl<'a> Verifier<'a> {
         ensures { Seen (signed pos) (λ b. vtable b pos) result self.old self.new }
     {
         let word = self.get_uoffset(pos)?;
-        match led_to(self.buffer, pos, word) {
-            Some(vtable) => Ok(vtable),
-            None => Err(InvalidFlatbuffer::SignedOffsetOutOfBounds {
-                soffset: word.cast_signed(),
-                position: pos,
-            }),
-        }
+        led_to(self.buffer, pos, word).ok_or(InvalidFlatbuffer::SignedOffsetOutOfBounds {
+            soffset: word.cast_signed(),
+            position: pos,
+        })
     }
 
     fn count_table(&mut self) -> Result<(), InvalidFlatbuffer>
         ensures { Seen count_table done result self.old self.new }
     {
-        let (tables, keeps) = raise(self.counters.num_tables, 1, self.opts.max_tables);
-        self.counters.num_tables = tables;
-        if keeps {
-            Ok(())
-        } else {
-            Err(InvalidFlatbuffer::TooManyTables)
-        }
+        raise(
+            &mut self.counters.num_tables,
+            1,
+            self.opts.max_tables,
+            InvalidFlatbuffer::TooManyTables,
+        )
     }
 
     fn descend(&mut self) -> Result<(), InvalidFlatbuffer>
         ensures { Seen descend done result self.old self.new }
     {
-        let (depth, keeps) = raise(self.counters.depth, 1, self.opts.max_depth);
-        self.counters.depth = depth;
-        if keeps {
-            Ok(())
-        } else {
-            Err(InvalidFlatbuffer::DepthLimitReached)
-        }
+        raise(
+            &mut self.counters.depth,
+            1,
+            self.opts.max_depth,
+            InvalidFlatbuffer::DepthLimitReached,
+        )
     }
 
     // The vtable's end is even and its range inside, and one more table is entered.
@@ -331,6 +316,13 @@ impl<'a> Verifier<'a> {
         Ok(len)
     }
 
+    // A zero byte stands there, or none is wanted.
+    fn terminated(&self, pos: usize) -> bool
+        ensures { result ≡ (self.now.opts.ignore_missing_null_terminator || zero_at (bytes self.now) pos) }
+    {
+        self.opts.ignore_missing_null_terminator || self.buffer.get(pos) == Some(&0)
+    }
+
     // The bytes there are text, and a zero byte follows them.
     pub(crate) fn text(&self, start: usize, len: usize) -> Result<(), InvalidFlatbuffer>
         requires { start + len ≤ length (bytes self.now) }
@@ -345,10 +337,7 @@ impl<'a> Verifier<'a> {
                 valid_up_to,
             });
         }
-        if self.opts.ignore_missing_null_terminator {
-            return Ok(());
-        }
-        if zero_byte(self.buffer, end) {
+        if self.terminated(end) {
             Ok(())
         } else {
             Err(InvalidFlatbuffer::MissingNullTerminator { start, end })
@@ -356,42 +345,21 @@ impl<'a> Verifier<'a> {
     }
 
     // The key of a union, which is verified as the field of its slot.
-    pub(crate) fn union_key(
-        &mut self,
-        trace: &mut [TraceRecord],
-        slot: u16,
-        pos: usize,
-    ) -> Result<u8, InvalidFlatbuffer>
-        ensures { Told (union_key slot pos) (λ b. slice_index b pos) result self.old self.new trace.old trace.new }
+    pub(crate) fn union_key(&mut self, slot: u16, position: usize) -> Result<u8, InvalidFlatbuffer>
+        ensures { Told (union_key slot position) (λ b. slice_index b position) result self.old self.new }
     {
-        let res = self.in_buffer(pos, 1, 1);
-        append_trace(
-            self,
-            trace,
-            res,
-            TraceRecord::TableField {
-                slot,
-                position: pos,
-            },
-        )?;
-        Ok(byte_at(self.buffer, pos))
+        let res = self.get_u8(position);
+        self.append_trace(res, TraceRecord::TableField { slot, position })
     }
 
     // Verifies the variant that a key names.
     pub fn verify_union_variant<T: Verifiable>(
         &mut self,
-        trace: &mut [TraceRecord],
         key: u8,
         position: usize,
     ) -> Result<(), InvalidFlatbuffer>
-        ensures { Told (within (UnionVariant key position) (reading T.Verifiable.shape position)) done result self.old self.new trace.old trace.new }
+        ensures { Told (within (UnionVariant key position) (reading T.Verifiable.shape position)) done result self.old self.new }
     {
-        let res = T::run_verifier(self, trace, position);
-        append_trace(
-            self,
-            trace,
-            res,
-            TraceRecord::UnionVariant { key, position },
-        )
+        self.visit::<T>(TraceRecord::UnionVariant { key, position })
     }
 }

@@ -26,12 +26,12 @@ impl InvalidFlatbuffer {
     pub fn is_limit(self) -> bool
         ensures { result ≡ limit self }
     {
-        match self {
-            InvalidFlatbuffer::ApparentSizeTooLarge => true,
-            InvalidFlatbuffer::TooManyTables => true,
-            InvalidFlatbuffer::DepthLimitReached => true,
-            _ => false,
-        }
+        matches!(
+            self,
+            InvalidFlatbuffer::ApparentSizeTooLarge
+                | InvalidFlatbuffer::TooManyTables
+                | InvalidFlatbuffer::DepthLimitReached
+        )
     }
 }
 
@@ -52,9 +52,9 @@ impl TraceRecord {
         ensures { result ≡ position_of self }
     {
         match self {
-            TraceRecord::VectorElement { position, .. } => position,
-            TraceRecord::TableField { position, .. } => position,
-            TraceRecord::UnionVariant { position, .. } => position,
+            TraceRecord::VectorElement { position, .. }
+            | TraceRecord::TableField { position, .. }
+            | TraceRecord::UnionVariant { position, .. } => position,
         }
     }
 }

@@ -6,5 +6,5 @@ use Rattle.verifier.proofs.verifiable.AnyVerifiable.run_verifier.Goals as goal
 pub returns : goal.returns
 unfolding reading
 returns g c =
-    seen_told c.args._trace.now
+    seen_told
     (seen_is (ap (λ n. in_buffer c.args.pos n c.alignment.result) c.size.ensures ∙ ap (in_buffer c.args.pos g.T.Kind.meaning.size) c.alignment.ensures) c.in_buffer.ensures)

@@ -3,5 +3,5 @@ use Rattle.reading.specs.Reading.{reading, element_at}
 use Rattle.verifier.proofs.Vectors.{Rest}
 use Rattle.verifier.proofs.verifiable.VectorOfForwardsUOffsetVerifiable.run_verifier.Given as goal
 
-abbrev pub invariant-loop-i : goal.invariant-loop-i
-invariant-loop-i g l = Rest (element_at (saturated l.pos 4) (reading g.T.Verifiable.shape)) l.i l.len l.initial.v l.v l.initial.trace l.trace
+abbrev pub invariant-loop-index : goal.invariant-loop-index
+invariant-loop-index g l = Rest (element_at (saturated l.pos 4) (reading g.T.Verifiable.shape)) l.index l.len l.initial.v l.v

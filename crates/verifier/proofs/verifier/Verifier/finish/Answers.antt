@@ -7,7 +7,8 @@ unfolding ascend
 returns c = record {
   result = refl;
   counters = ap (with_depth c.args.self.now.counters) c.saturating_sub-self.ensures;
+  trace = refl;
   traced = refl;
   quiet = refl;
-  kept = record { buffer = refl; opts = refl };
+  kept = record { buffer = refl; opts = refl; lent = refl };
 }
