@@ -10,7 +10,6 @@ use space::Space;
 use store::allocator::Allocator;
 use vectors::string::create_byte_string;
 use vectors::vector::{create_vector, get};
-use wire::range::inside;
 use wire::refusal::Refusal;
 
 // Where a name and its kerns were written, as offsets from the end.
@@ -34,44 +33,43 @@ pub fn write<S: Allocator>(
     Ok(Places { name, kerns })
 }
 
-// The position of what lies at an offset, or nothing where it is outside the bytes.
-fn position(bytes: &[u8], offset: u32) -> Option<usize>
-    ensures { result ≡ (if nat_le offset (length bytes.now) then Some (length bytes.now - offset) else None) }
-{
-    let offset = offset as usize;
-    if offset <= bytes.len() {
-        Some(bytes.len() - offset)
-    } else {
-        None
+// What lies at an offset from the end of some bytes.
+#[derive(Clone, Copy)]
+pub struct Object<'a> {
+    pub bytes: &'a [u8],
+    pub offset: u32,
+}
+
+impl<'a> Object<'a> {
+    // Its position, or nothing where it is outside the bytes.
+    fn position(&self) -> Option<usize>
+        ensures { result ≡ (if nat_le self.now.offset (length self.now.bytes.now) then Some (length self.now.bytes.now - self.now.offset) else None) }
+    {
+        self.bytes.len().checked_sub(self.offset as usize)
     }
-}
 
-// How many elements the vector at an offset has.
-pub fn count_at(bytes: &[u8], offset: u32) -> Option<u32>
-    ensures { result ≡ at_offset (count_of bytes.now) bytes.now offset }
-{
-    let at = position(bytes, offset)?;
-    u32::follow(bytes, at)
-}
-
-// The bytes of the string at an offset.
-pub fn string_at(bytes: &[u8], offset: u32) -> Option<&[u8]>
-    ensures { option_map (λ x. x.now) result ≡ at_offset (string_of bytes.now) bytes.now offset }
-{
-    let at = position(bytes, offset)?;
-    let count = u32::follow(bytes, at)? as usize;
-    if inside(at + 4, count, bytes.len()) {
-        Some(&bytes[at + 4..at + 4 + count])
-    } else {
-        None
+    // How many elements the vector there has.
+    pub fn count(&self) -> Option<u32>
+        ensures { result ≡ at_offset (count_of self.now.bytes.now) self.now.bytes.now self.now.offset }
+    {
+        u32::follow(self.bytes, self.position()?)
     }
-}
 
-// The kern `i` of those at an offset.
-pub fn kern_at(bytes: &[u8], offset: u32, i: usize) -> Option<Kern>
-    ensures { result ≡ at_offset (kern_of bytes.now i) bytes.now offset }
-{
-    let at = position(bytes, offset)?;
-    let count = u32::follow(bytes, at)? as usize;
-    get::<Kern>(bytes, at + 4, count, i)
+    // The bytes of the string there.
+    pub fn string(&self) -> Option<&'a [u8]>
+        ensures { option_map (λ x. x.now) result ≡ at_offset (string_of self.now.bytes.now) self.now.bytes.now self.now.offset }
+    {
+        let at = self.position()?;
+        let count = u32::follow(self.bytes, at)? as usize;
+        self.bytes.get(at + 4..at + 4 + count)
+    }
+
+    // The kern `i` of those there.
+    pub fn kern(&self, i: usize) -> Option<Kern>
+        ensures { result ≡ at_offset (kern_of self.now.bytes.now i) self.now.bytes.now self.now.offset }
+    {
+        let at = self.position()?;
+        let count = u32::follow(self.bytes, at)? as usize;
+        get::<Kern>(self.bytes, at + 4, count, i)
+    }
 }

@@ -1,6 +1,6 @@
 // What the builder makes of a font, and what misuse of it is told.
 use crate::pack::{Glyph, write_font};
-use crate::report::{report_bytes, report_refusal};
+use crate::report::{Refused, report_bytes};
 use builder::builder::FlatBufferBuilder;
 use font::anchor::Anchor;
 use font::kern::Kern;
@@ -42,9 +42,10 @@ where
         },
     ];
     match write_font(&mut b, b"Padrezok", &glyphs, &KERNS) {
-        Ok(font) => report_finished(rt, &mut b, font),
-        Err(refusal) => report_refusal(rt, &refusal),
+        Ok(font) => report_finished(rt, &mut b, font)?,
+        Err(refusal) => println!(rt; "  {}", Refused(&refusal))?,
     }
+    Ok(())
 }
 
 // Finishes the buffer and shows it.
@@ -71,10 +72,7 @@ fn report_told<A: Drop, E: Debug + Drop>(
 ) -> anyhow::Result<()> {
     match told {
         Ok(_) => println!(rt; "  {what}: done")?,
-        Err(refusal) => {
-            let number = refusal.number();
-            println!(rt; "  {what}: refused by {number}, {refusal:?}")?;
-        }
+        Err(refusal) => println!(rt; "  {what}: {}", Refused(&refusal))?,
     }
     Ok(())
 }

@@ -1,7 +1,8 @@
 // What took place, in words and bytes.
-use crate::job::{Places, count_at, kern_at, string_at, write};
+use crate::job::{Object, write};
 use font::kern::Kern;
 use space::Space;
+use std::fmt;
 use std::fmt::Debug;
 use store::allocator::Contiguous;
 use vectors::vector::create_and_get;
@@ -40,11 +41,13 @@ where
     let mut space = Space::new(store);
     match write(&mut space, NAME, &KERNS) {
         Ok(places) => {
-            report_bytes(rt, space.as_slice())?;
-            report_name(rt, space.as_slice(), places)?;
-            report_kerns(rt, space.as_slice(), places)?;
+            let bytes = space.as_slice();
+            let at = |offset: u32| Object { bytes, offset };
+            report_bytes(rt, bytes)?;
+            report_name(rt, at(places.name))?;
+            report_kerns(rt, at(places.kerns))?;
         }
-        Err(refusal) => report_refusal(rt, &refusal)?,
+        Err(refusal) => println!(rt; "  {}", Refused(&refusal))?,
     }
     report_limit(rt, &mut space)
 }
@@ -64,39 +67,38 @@ pub fn report_bytes(rt: &HostRuntime, bytes: &[u8]) -> anyhow::Result<()> {
 }
 
 // The name as it reads.
-fn report_name(rt: &HostRuntime, bytes: &[u8], places: Places) -> anyhow::Result<()> {
-    let offset = places.name;
-    let Some(text) = string_at(bytes, offset) else {
-        println!(rt; "  no name is at offset {offset}")?;
-        return Ok(());
-    };
-    match std::str::from_utf8(text) {
-        Ok(name) => println!(rt; "  the name at offset {offset} reads {name}")?,
-        Err(_) => println!(rt; "  the name at offset {offset} is no text")?,
+fn report_name(rt: &HostRuntime, name: Object) -> anyhow::Result<()> {
+    let offset = name.offset;
+    match name.string().map(|text| std::str::from_utf8(text)) {
+        None => println!(rt; "  no name is at offset {offset}")?,
+        Some(Ok(name)) => println!(rt; "  the name at offset {offset} reads {name}")?,
+        Some(Err(_)) => println!(rt; "  the name at offset {offset} is no text")?,
     }
     Ok(())
 }
 
 // The kerns as they read.
-fn report_kerns(rt: &HostRuntime, bytes: &[u8], places: Places) -> anyhow::Result<()> {
-    let offset = places.kerns;
-    let Some(count) = count_at(bytes, offset) else {
+fn report_kerns(rt: &HostRuntime, kerns: Object) -> anyhow::Result<()> {
+    let offset = kerns.offset;
+    let Some(count) = kerns.count() else {
         println!(rt; "  no kerns are at offset {offset}")?;
         return Ok(());
     };
     println!(rt; "  the {count} kerns at offset {offset} read")?;
-    for i in 0..count as usize {
-        if let Some(Kern { left, right, value }) = kern_at(bytes, offset, i) {
-            println!(rt; "    left {left}, right {right}, value {value}")?;
-        }
+    for Kern { left, right, value } in (0..count as usize).filter_map(|i| kerns.kern(i)) {
+        println!(rt; "    left {left}, right {right}, value {value}")?;
     }
     Ok(())
 }
 
-pub fn report_refusal<E: Debug>(rt: &HostRuntime, refusal: &Refusal<E>) -> anyhow::Result<()> {
-    let number = refusal.number();
-    println!(rt; "  refused by {number}, {refusal:?}")?;
-    Ok(())
+// A refusal in words: its number and its name.
+#[derive(Drop)]
+pub struct Refused<'a, E>(pub &'a Refusal<E>);
+
+impl<'a, E: Debug> fmt::Display for Refused<'a, E> {
+    fn fmt<W: fmt::Write>(&self, f: &mut fmt::Formatter<W>) -> fmt::Result {
+        write!(f, "refused by {}, {:?}", self.0.number(), self.0)
+    }
 }
 
 // Writes the kerns again and again, reading one back each time, until the store refuses.
@@ -108,7 +110,7 @@ where
         let before = space.as_slice().to_vec(rt.alloc())?;
         if let Err(refusal) = create_and_get(space, &KERNS, 1) {
             println!(rt; "  further lists that fit: {written}; the next is")?;
-            report_refusal(rt, &refusal)?;
+            println!(rt; "  {}", Refused(&refusal))?;
             let same = before.as_slice() == space.as_slice();
             println!(rt; "  the used bytes are as before: {same}")?;
             return Ok(());

@@ -1,135 +1,140 @@
 // One call on a builder.
 use crate::answer::Answer;
-use crate::fault::Fault;
-use crate::valued;
+use crate::fault::{Failure, Fault};
+use crate::value::KindName;
+use crate::valued::Valued;
 use crate::words::Words;
 use builder::builder::FlatBufferBuilder;
-use std::alloc::Global;
-use store::allocator::{Allocator, Contiguous};
+use store::allocator::Contiguous;
+use wire::refusal::Refusal;
 
-// Makes the call of this name with the words that follow it.
-pub fn call<'b, S: Contiguous>(
-    builder: &'b mut FlatBufferBuilder<S>,
+// A call on a builder, and the words after its name.
+#[derive(Drop)]
+pub struct Call<'b, 'w, B> {
+    pub builder: &'b mut B,
+    pub words: Words<'w>,
+}
+
+// Makes the call of this name with the words that follow it. Before the first store line there is no builder.
+pub fn make_call<'b, 'w, S: Contiguous>(
+    builder: Option<&'b mut FlatBufferBuilder<S>>,
     name: &str,
-    words: &mut Words,
-    heap: Global,
-) -> Result<Answer<'b>, Fault>
-where
-    S::Error: Drop,
-{
+    words: Words<'w>,
+) -> Result<Answer<'b>, Failure<S::Error>> {
+    let builder = builder.ok_or(Fault::NoStore)?;
+    let mut call = Call { builder, words };
     match name {
-        "push" => valued::push(builder, words),
-        "push_slot" => valued::push_slot(builder, words),
-        "push_slot_always" => valued::push_slot_always(builder, words),
-        "start_vector" => valued::start_vector(builder, words),
-        "end_vector" => valued::end_vector(builder, words),
-        "create_vector" => valued::create_vector(builder, words, heap),
-        "start_table" | "end_table" | "required" => table_call(builder, name, words),
-        "create_byte_string" | "create_string" | "create_shared_string" => {
-            string_call(builder, name, words, heap)
+        "push" => call.valued(Valued::Push),
+        "push_slot" => {
+            let slot = call.words.read::<u16>()?;
+            call.valued(Valued::PushSlot(slot))
         }
-        "finish" => finish(builder, words, heap, false),
-        "finish_size_prefixed" => finish(builder, words, heap, true),
-        "reset" | "force_defaults" => setting_call(builder, name, words),
-        _ => data_call(builder, name, words),
+        "push_slot_always" => {
+            let slot = call.words.read::<u16>()?;
+            call.valued(Valued::PushSlotAlways(slot))
+        }
+        "start_vector" => call.valued(Valued::StartVector),
+        "create_vector" => call.valued(Valued::CreateVector),
+        "end_vector" => call.end_vector(),
+        "create_byte_string" => call.string(|b, text| b.create_byte_string(text)),
+        "create_string" => call.string(|b, text| b.create_string(text)),
+        "create_shared_string" => call.string(|b, text| b.create_shared_string(text)),
+        "start_table" => call.start_table(),
+        "end_table" => call.end_table(),
+        "required" => call.required(),
+        "finish" => call.finish(|b, root, name| b.finish(root, name)),
+        "finish_size_prefixed" => call.finish(|b, root, name| b.finish_size_prefixed(root, name)),
+        "reset" => call.reset(),
+        "force_defaults" => call.force_defaults(),
+        "finished_data" => call.finished_data(),
+        "used" => call.used(),
+        "vtables" => call.vtables(),
+        _ => Err(Fault::NoSuchCall.into()),
     }
 }
 
-fn table_call<S: Allocator>(
-    builder: &mut FlatBufferBuilder<S>,
-    name: &str,
-    words: &mut Words,
-) -> Result<Answer<'static>, Fault>
-where
-    S::Error: Drop,
-{
-    if name == "start_table" {
-        words.end()?;
-        return Ok(Answer::at(builder.start_table()));
+impl<'b, 'w, B> Call<'b, 'w, B> {
+    // A call that writes text.
+    fn string<E, F>(mut self, create: F) -> Result<Answer<'b>, Failure<E>>
+    where
+        F: FnOnce(&mut B, &[u8]) -> Result<u32, Refusal<E>>,
+        requires { F.IsAlwaysCallable create }
+    {
+        let text = self.words.bytes()?;
+        self.words.end()?;
+        Ok(Answer::At(create(self.builder, text.as_slice())?))
     }
-    let offset = words.offset()?;
-    if name == "end_table" {
-        words.end()?;
-        return Ok(Answer::at(builder.end_table(offset)));
+
+    // A call that finishes the buffer; an identifier of no bytes is none.
+    fn finish<E, F>(mut self, finish: F) -> Result<Answer<'b>, Failure<E>>
+    where
+        F: FnOnce(&mut B, u32, Option<&[u8]>) -> Result<(), Refusal<E>>,
+        requires { F.IsAlwaysCallable finish }
+    {
+        let root = self.words.read::<u32>()?;
+        let identifier = self.words.bytes()?;
+        self.words.end()?;
+        let given = Some(identifier.as_slice()).filter(|bytes| !bytes.is_empty());
+        finish(self.builder, root, given)?;
+        Ok(Answer::Done)
     }
-    let slot = words.slot()?;
-    words.end()?;
-    Ok(Answer::done(builder.required(offset, slot)))
 }
 
-fn string_call<S: Allocator>(
-    builder: &mut FlatBufferBuilder<S>,
-    name: &str,
-    words: &mut Words,
-    heap: Global,
-) -> Result<Answer<'static>, Fault>
-where
-    S::Error: Drop,
-{
-    let text = words.bytes(heap)?;
-    words.end()?;
-    Ok(Answer::at(match name {
-        "create_byte_string" => builder.create_byte_string(text.as_slice()),
-        "create_string" => builder.create_string(text.as_slice()),
-        _ => builder.create_shared_string(text.as_slice()),
-    }))
-}
-
-fn finish<S: Allocator>(
-    builder: &mut FlatBufferBuilder<S>,
-    words: &mut Words,
-    heap: Global,
-    size_prefixed: bool,
-) -> Result<Answer<'static>, Fault>
-where
-    S::Error: Drop,
-{
-    let root = words.offset()?;
-    let identifier = words.bytes(heap)?;
-    words.end()?;
-    let given = if identifier.is_empty() {
-        None
-    } else {
-        Some(identifier.as_slice())
-    };
-    Ok(Answer::done(if size_prefixed {
-        builder.finish_size_prefixed(root, given)
-    } else {
-        builder.finish(root, given)
-    }))
-}
-
-fn setting_call<S: Allocator>(
-    builder: &mut FlatBufferBuilder<S>,
-    name: &str,
-    words: &mut Words,
-) -> Result<Answer<'static>, Fault> {
-    if name == "reset" {
-        words.end()?;
-        builder.reset();
-    } else {
-        let forced = words.flag()?;
-        words.end()?;
-        builder.force_defaults(forced);
+impl<'b, 'w, S: Contiguous> Call<'b, 'w, FlatBufferBuilder<S>> {
+    // The kind of an end says nothing: the start named it.
+    fn end_vector(mut self) -> Result<Answer<'b>, Failure<S::Error>> {
+        let _ = self.words.read::<KindName>()?;
+        let count = self.words.read::<usize>()?;
+        self.words.end()?;
+        Ok(Answer::At(self.builder.end_vector(count)?))
     }
-    Ok(Answer::Done)
-}
 
-// The calls that look at the builder and change nothing.
-fn data_call<'b, S: Contiguous>(
-    builder: &'b FlatBufferBuilder<S>,
-    name: &str,
-    words: &mut Words,
-) -> Result<Answer<'b>, Fault>
-where
-    S::Error: Drop,
-{
-    let answer = match name {
-        "finished_data" => Answer::bytes(builder.finished_data()),
-        "used" => Answer::Bytes(builder.unfinished_data()),
-        "vtables" => Answer::Count(builder.num_written_vtables()),
-        _ => return Err(Fault::NoSuchCall),
-    };
-    words.end()?;
-    Ok(answer)
+    fn start_table(mut self) -> Result<Answer<'b>, Failure<S::Error>> {
+        self.words.end()?;
+        Ok(Answer::At(self.builder.start_table()?))
+    }
+
+    fn end_table(mut self) -> Result<Answer<'b>, Failure<S::Error>> {
+        let start = self.words.read::<u32>()?;
+        self.words.end()?;
+        Ok(Answer::At(self.builder.end_table(start)?))
+    }
+
+    fn required(mut self) -> Result<Answer<'b>, Failure<S::Error>> {
+        let table = self.words.read::<u32>()?;
+        let slot = self.words.read::<u16>()?;
+        self.words.end()?;
+        self.builder.required(table, slot)?;
+        Ok(Answer::Done)
+    }
+
+    fn reset(mut self) -> Result<Answer<'b>, Failure<S::Error>> {
+        self.words.end()?;
+        self.builder.reset();
+        Ok(Answer::Done)
+    }
+
+    fn force_defaults(mut self) -> Result<Answer<'b>, Failure<S::Error>> {
+        let forced = self.words.flag()?;
+        self.words.end()?;
+        self.builder.force_defaults(forced);
+        Ok(Answer::Done)
+    }
+
+    fn finished_data(mut self) -> Result<Answer<'b>, Failure<S::Error>> {
+        self.words.end()?;
+        let builder = self.builder;
+        Ok(Answer::Bytes(builder.finished_data()?))
+    }
+
+    fn used(mut self) -> Result<Answer<'b>, Failure<S::Error>> {
+        self.words.end()?;
+        let builder = self.builder;
+        Ok(Answer::Bytes(builder.unfinished_data()))
+    }
+
+    fn vtables(mut self) -> Result<Answer<'b>, Failure<S::Error>> {
+        self.words.end()?;
+        Ok(Answer::Count(self.builder.num_written_vtables()))
+    }
 }

@@ -1,6 +1,9 @@
-// Why a line is no call.
+// Why a line is no call, and why a call gives no answer.
+use hex::FromHexError;
 use std::alloc::AllocFailed;
 use std::fmt;
+use std::num::ParseIntError;
+use wire::refusal::Refusal;
 
 #[derive(Clone, Copy)]
 pub enum Fault {
@@ -37,5 +40,39 @@ impl fmt::Display for Fault {
 impl<T: Drop> From<AllocFailed<T>> for Fault {
     fn from(_: AllocFailed<T>) -> Fault {
         Fault::NoMemory
+    }
+}
+
+impl From<ParseIntError> for Fault {
+    fn from(_: ParseIntError) -> Fault {
+        Fault::NotANumber
+    }
+}
+
+impl From<FromHexError> for Fault {
+    fn from(error: FromHexError) -> Fault {
+        match error {
+            FromHexError::OutOfMemory => Fault::NoMemory,
+            _ => Fault::NotHexadecimal,
+        }
+    }
+}
+
+// Why a line has no answer: it is no call, or the builder refused it.
+#[derive(Drop)]
+pub enum Failure<E> {
+    Fault(Fault),
+    Refused(Refusal<E>),
+}
+
+impl<E> From<Fault> for Failure<E> {
+    fn from(fault: Fault) -> Failure<E> {
+        Failure::Fault(fault)
+    }
+}
+
+impl<E> From<Refusal<E>> for Failure<E> {
+    fn from(refusal: Refusal<E>) -> Failure<E> {
+        Failure::Refused(refusal)
     }
 }

@@ -12,12 +12,12 @@ mod words;
 
 use answer::Answers;
 use script::Script;
-use session::replay;
+use session::Session;
 
 fn run(rt: &HostRuntime) -> anyhow::Result<()> {
-    let mut script = Script::new(rt.stdin(), rt.alloc())?;
-    let mut answers = Answers::new(rt.stdout(), rt.alloc())?;
-    replay(&mut script, &mut answers, rt.alloc())?;
+    let script = Script::new(rt.stdin(), rt.alloc())?;
+    let answers = Answers::new(rt.stdout(), rt.alloc())?;
+    Session::new(script, answers, rt.alloc()).replay()?;
     Ok(())
 }
 

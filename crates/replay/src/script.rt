@@ -7,7 +7,9 @@ use crate::fault::Fault;
 use crate::words::Words;
 use std::alloc::Global;
 use std::io;
-use std::io::{BufRead, BufReader, Stdin};
+use std::io::{BufRead, BufReader, Split, Stdin};
+use std::iter::Zip;
+use std::ops::RangeFrom;
 
 // No store over a lent slice has more bytes.
 const LONGEST: usize = 1048576;
@@ -33,11 +35,12 @@ pub enum Request<'a> {
     Call(&'a str, Words<'a>),
 }
 
+// Lines, each with its number, from 1.
+pub type Lines = Zip<RangeFrom<u64>, Split<BufReader<Stdin>>>;
+
 #[derive(Drop)]
 pub struct Script {
-    input: BufReader<Stdin>,
-    line: Vec<u8>,
-    number: u64,
+    lines: Lines,
 }
 
 impl Script {
@@ -45,60 +48,49 @@ impl Script {
     pub fn new(input: Stdin, heap: Global) -> io::Result<Script>
         ensures { IfErr result (λ e. error_kind e ≡ OutOfMemory) }
     {
+        let lines = BufReader::new(heap, input)?.split(heap, b'\n');
         Ok(Script {
-            input: BufReader::new(heap, input)?,
-            line: Vec::new(heap),
-            number: 0,
+            lines: (1..).zip(lines),
         })
     }
 
-    // Goes to the next line; false where there is none.
-    pub fn advance(&mut self) -> io::Result<bool> {
-        self.line.clear();
-        let read = self.input.read_until(b'\n', &mut self.line)?;
-        self.number = self.number.saturating_add(1);
-        Ok(read > 0)
+    // The lines that are left.
+    pub fn lines(&mut self) -> &mut Lines {
+        &mut self.lines
     }
+}
 
-    // The number of the line, from 1.
-    pub fn number(&self) -> u64 {
-        self.number
-    }
-
-    // What the line asks for.
-    pub fn request(&self) -> Result<Request<'_>, Fault> {
-        let Ok(text) = std::str::from_utf8(self.line.as_slice()) else {
-            return Err(Fault::NotText);
-        };
-        let mut words = Words::new(text);
+impl<'a> Request<'a> {
+    // What a line asks for; a call that allocates does so on the heap.
+    pub fn read(line: &'a [u8], heap: Global) -> Result<Request<'a>, Fault> {
+        let text = std::str::from_utf8(line).map_err(|_| Fault::NotText)?;
+        let mut words = Words::new(text, heap);
         match words.next_word() {
             None => Ok(Request::Nothing),
-            Some("store") => Ok(Request::Store(store_named(&mut words)?)),
+            Some("store") => Ok(Request::Store(Choice::try_from(words)?)),
             Some(name) if name.starts_with('#') => Ok(Request::Nothing),
             Some(name) => Ok(Request::Call(name, words)),
         }
     }
 }
 
-// Which store the words after `store` name.
-fn store_named(words: &mut Words) -> Result<Choice, Fault> {
-    let first = words.word()?;
-    let choice = if first == "quota" {
-        let quota = Some(words.count()?);
-        let base = base_named(words.word()?, words)?;
-        Choice { base, quota }
-    } else {
-        let base = base_named(first, words)?;
-        Choice { base, quota: None }
-    };
-    words.end()?;
-    Ok(choice)
-}
+impl<'a> TryFrom<Words<'a>> for Choice {
+    type Error = Fault;
 
-fn base_named(name: &str, words: &mut Words) -> Result<Base, Fault> {
-    match name {
-        "still" => Ok(Base::Still),
-        "doubling" => Ok(Base::Doubling(words.count()?.min(LONGEST))),
-        _ => Err(Fault::NoSuchStore),
+    // Which store the words after `store` name.
+    fn try_from(mut words: Words<'a>) -> Result<Choice, Fault> {
+        let mut name = words.word()?;
+        let mut quota = None;
+        if name == "quota" {
+            quota = Some(words.read::<usize>()?);
+            name = words.word()?;
+        }
+        let base = match name {
+            "still" => Base::Still,
+            "doubling" => Base::Doubling(words.read::<usize>()?.min(LONGEST)),
+            _ => return Err(Fault::NoSuchStore),
+        };
+        words.end()?;
+        Ok(Choice { base, quota })
     }
 }

@@ -1,7 +1,6 @@
 // Replays a script, a builder to each store line.
-use crate::answer::Answers;
-use crate::call::call;
-use crate::fault::Fault;
+use crate::answer::{Answer, Answers};
+use crate::call::make_call;
 use crate::script::{Base, Choice, Request, Script};
 use builder::builder::FlatBufferBuilder;
 use std::alloc::Global;
@@ -11,83 +10,89 @@ use store::doubling::Doubling;
 use store::quota::Quota;
 use store::still::Still;
 
-// Replays the whole script.
-pub fn replay(script: &mut Script, answers: &mut Answers, heap: Global) -> io::Result<()> {
-    let mut next = first_store(script, answers)?;
-    for _ in 0..u64::MAX {
-        match next {
-            Some(choice) => next = replay_in(choice, script, answers, heap)?,
-            None => break,
-        }
-    }
-    answers.end()
-}
-
-// The first store line; the calls before it have no builder.
-fn first_store(script: &mut Script, answers: &mut Answers) -> io::Result<Option<Choice>> {
-    for _ in 0..u64::MAX {
-        if !script.advance()? {
-            break;
-        }
-        match script.request() {
-            Ok(Request::Nothing) => {}
-            Ok(Request::Store(choice)) => return Ok(Some(choice)),
-            Ok(Request::Call(_, _)) => answers.fault(script.number(), Fault::NoStore)?,
-            Err(fault) => answers.fault(script.number(), fault)?,
-        }
-    }
-    Ok(None)
-}
-
-// Replays what follows a store line, and answers the next one.
-fn replay_in(
-    choice: Choice,
-    script: &mut Script,
-    answers: &mut Answers,
+// A script, and where its answers go.
+#[derive(Drop)]
+pub struct Session {
+    script: Script,
+    answers: Answers,
     heap: Global,
-) -> io::Result<Option<Choice>> {
-    match choice.base {
-        Base::Still => match choice.quota {
-            None => replay_on(Still::new(), script, answers, heap),
-            Some(quota) => replay_on(Quota::new(Still::new(), quota), script, answers, heap),
-        },
-        Base::Doubling(limit) => {
-            let mut bytes = vec![in heap; 0u8; limit]?;
-            let store = Doubling::new(bytes.as_mut_slice());
-            match choice.quota {
-                None => replay_on(store, script, answers, heap),
-                Some(quota) => replay_on(Quota::new(store, quota), script, answers, heap),
+}
+
+impl Session {
+    pub fn new(script: Script, answers: Answers, heap: Global) -> Session {
+        Session {
+            script,
+            answers,
+            heap,
+        }
+    }
+
+    // Replays the whole script.
+    pub fn replay(&mut self) -> io::Result<()> {
+        let mut next = self.replay_lines::<Still>(None)?;
+        // Each loop has to end, and no handle that may wait is allowed: no script comes to this bound.
+        for _ in 0..u64::MAX {
+            let Some(choice) = next else { break };
+            next = self.replay_in(choice)?;
+        }
+        self.answers.end()
+    }
+
+    // Replays what follows a store line, and answers the next one.
+    fn replay_in(&mut self, choice: Choice) -> io::Result<Option<Choice>> {
+        match choice.base {
+            Base::Still => self.replay_under(choice.quota, Still::new()),
+            Base::Doubling(limit) => {
+                let mut bytes = vec![in self.heap; 0u8; limit]?;
+                self.replay_under(choice.quota, Doubling::new(bytes.as_mut_slice()))
             }
         }
     }
-}
 
-fn replay_on<S: Contiguous + Drop>(
-    store: S,
-    script: &mut Script,
-    answers: &mut Answers,
-    heap: Global,
-) -> io::Result<Option<Choice>>
-where
-    S::Error: Drop,
-{
-    answers.done()?;
-    let mut builder = FlatBufferBuilder::new_in(store);
-    for _ in 0..u64::MAX {
-        if !script.advance()? {
-            break;
-        }
-        match script.request() {
-            Ok(Request::Nothing) => {}
-            Ok(Request::Store(choice)) => return Ok(Some(choice)),
-            Ok(Request::Call(name, mut words)) => {
-                match call(&mut builder, name, &mut words, heap) {
-                    Ok(answer) => answers.answer(answer)?,
-                    Err(fault) => answers.fault(script.number(), fault)?,
-                }
-            }
-            Err(fault) => answers.fault(script.number(), fault)?,
+    // Replays the lines on a store, which may have a quota.
+    fn replay_under<S: Contiguous + Drop>(
+        &mut self,
+        quota: Option<usize>,
+        store: S,
+    ) -> io::Result<Option<Choice>>
+    where
+        S::Error: Drop,
+    {
+        match quota {
+            None => self.replay_on(store),
+            Some(quota) => self.replay_on(Quota::new(store, quota)),
         }
     }
-    Ok(None)
+
+    // Says that the store is there, and replays the lines on a builder over it.
+    fn replay_on<S: Contiguous + Drop>(&mut self, store: S) -> io::Result<Option<Choice>>
+    where
+        S::Error: Drop,
+    {
+        self.answers.answer(Answer::Done)?;
+        self.replay_lines(Some(FlatBufferBuilder::new_in(store)))
+    }
+
+    // Replays the lines up to the next store line, and answers that. Those before the first have no builder.
+    fn replay_lines<S: Contiguous + Drop>(
+        &mut self,
+        mut builder: Option<FlatBufferBuilder<S>>,
+    ) -> io::Result<Option<Choice>>
+    where
+        S::Error: Drop,
+    {
+        for (number, line) in self.script.lines() {
+            let line = line?;
+            match Request::read(line.as_slice(), self.heap) {
+                Ok(Request::Nothing) => {}
+                Ok(Request::Store(choice)) => return Ok(Some(choice)),
+                Ok(Request::Call(name, words)) => match make_call(builder.as_mut(), name, words) {
+                    Ok(answer) => self.answers.answer(answer)?,
+                    Err(failure) => self.answers.failure(number, failure)?,
+                },
+                Err(fault) => self.answers.fault(number, fault)?,
+            }
+        }
+        Ok(None)
+    }
 }

@@ -4,7 +4,8 @@ use font::anchor::Anchor;
 use font::kern::Kern;
 use kinds::Kind;
 use kinds::primitives::WIPOffset;
-use std::num::{f32_from_bits_with_nan, f64_from_bits_with_nan};
+use std::num::{ParseIntError, f32_from_bits_with_nan, f64_from_bits_with_nan};
+use std::str::FromStr;
 
 #[derive(Clone, Copy)]
 pub enum KindName {
@@ -23,22 +24,26 @@ pub enum KindName {
     Kern,
 }
 
-pub fn kind_named(word: &str) -> Result<KindName, Fault> {
-    match word {
-        "u8" => Ok(KindName::U8),
-        "u16" => Ok(KindName::U16),
-        "u32" => Ok(KindName::U32),
-        "u64" => Ok(KindName::U64),
-        "i8" => Ok(KindName::I8),
-        "i16" => Ok(KindName::I16),
-        "i32" => Ok(KindName::I32),
-        "i64" => Ok(KindName::I64),
-        "f32" => Ok(KindName::F32),
-        "f64" => Ok(KindName::F64),
-        "offset" => Ok(KindName::Offset),
-        "anchor" => Ok(KindName::Anchor),
-        "kern" => Ok(KindName::Kern),
-        _ => Err(Fault::NoSuchKind),
+impl FromStr for KindName {
+    type Err = Fault;
+
+    fn from_str(word: &str) -> Result<KindName, Fault> {
+        Ok(match word {
+            "u8" => KindName::U8,
+            "u16" => KindName::U16,
+            "u32" => KindName::U32,
+            "u64" => KindName::U64,
+            "i8" => KindName::I8,
+            "i16" => KindName::I16,
+            "i32" => KindName::I32,
+            "i64" => KindName::I64,
+            "f32" => KindName::F32,
+            "f64" => KindName::F64,
+            "offset" => KindName::Offset,
+            "anchor" => KindName::Anchor,
+            "kern" => KindName::Kern,
+            _ => return Err(Fault::NoSuchKind),
+        })
     }
 }
 
@@ -47,96 +52,62 @@ pub trait Value: Kind {
     fn read(word: &str) -> Result<Self, Fault>;
 }
 
-// What was read, or that it was no number.
-fn number<T, E: Drop>(read: Result<T, E>) -> Result<T, Fault> {
-    match read {
-        Ok(x) => Ok(x),
-        Err(_) => Err(Fault::NotANumber),
-    }
-}
+// The kinds whose values stand as std reads them.
+pub trait Integer: Kind + FromStr<Err = ParseIntError> {}
 
-impl Value for u8 {
-    fn read(word: &str) -> Result<u8, Fault> {
-        number(word.parse::<u8>())
-    }
-}
+impl Integer for u8 {}
 
-impl Value for u16 {
-    fn read(word: &str) -> Result<u16, Fault> {
-        number(word.parse::<u16>())
-    }
-}
+impl Integer for u16 {}
 
-impl Value for u32 {
-    fn read(word: &str) -> Result<u32, Fault> {
-        number(word.parse::<u32>())
-    }
-}
+impl Integer for u32 {}
 
-impl Value for u64 {
-    fn read(word: &str) -> Result<u64, Fault> {
-        number(word.parse::<u64>())
-    }
-}
+impl Integer for u64 {}
 
-impl Value for i8 {
-    fn read(word: &str) -> Result<i8, Fault> {
-        number(word.parse::<i8>())
-    }
-}
+impl Integer for i8 {}
 
-impl Value for i16 {
-    fn read(word: &str) -> Result<i16, Fault> {
-        number(word.parse::<i16>())
-    }
-}
+impl Integer for i16 {}
 
-impl Value for i32 {
-    fn read(word: &str) -> Result<i32, Fault> {
-        number(word.parse::<i32>())
-    }
-}
+impl Integer for i32 {}
 
-impl Value for i64 {
-    fn read(word: &str) -> Result<i64, Fault> {
-        number(word.parse::<i64>())
+impl Integer for i64 {}
+
+impl<T: Integer> Value for T {
+    fn read(word: &str) -> Result<T, Fault> {
+        Ok(word.parse::<T>()?)
     }
 }
 
 impl Value for f32 {
     // its bits, in hexadecimal
     fn read(word: &str) -> Result<f32, Fault> {
-        Ok(f32_from_bits_with_nan(number(u32::from_str_radix(word, 16))?))
+        Ok(f32_from_bits_with_nan(u32::from_str_radix(word, 16)?))
     }
 }
 
 impl Value for f64 {
     // its bits, in hexadecimal
     fn read(word: &str) -> Result<f64, Fault> {
-        Ok(f64_from_bits_with_nan(number(u64::from_str_radix(word, 16))?))
+        Ok(f64_from_bits_with_nan(u64::from_str_radix(word, 16)?))
     }
 }
 
 impl Value for WIPOffset<u8> {
     fn read(word: &str) -> Result<WIPOffset<u8>, Fault> {
-        Ok(WIPOffset::new(number(word.parse::<u32>())?))
+        Ok(WIPOffset::new(word.parse()?))
     }
 }
 
 // What stands before the first comma, and what stands after it.
 fn halves(word: &str) -> Result<(&str, &str), Fault> {
-    match word.split_once(',') {
-        Some(parts) => Ok(parts),
-        None => Err(Fault::NotANumber),
-    }
+    word.split_once(',').ok_or(Fault::NotANumber)
 }
 
 impl Value for Anchor {
     fn read(word: &str) -> Result<Anchor, Fault> {
         let (x, y) = halves(word)?;
         Ok(Anchor {
-            x: number(x.parse::<i16>())?,
-            y: number(y.parse::<i16>())?,
+            x: x.parse()?,
+            y: y.parse()?,
         })
     }
 }
@@ -146,9 +117,9 @@ impl Value for Kern {
         let (left, rest) = halves(word)?;
         let (right, value) = halves(rest)?;
         Ok(Kern {
-            left: number(left.parse::<u16>())?,
-            right: number(right.parse::<u16>())?,
-            value: number(value.parse::<i16>())?,
+            left: left.parse()?,
+            right: right.parse()?,
+            value: value.parse()?,
         })
     }
 }

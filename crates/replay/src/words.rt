@@ -1,17 +1,20 @@
 // The words of a line, taken from the left.
 use crate::fault::Fault;
+use crate::value::Value;
 use std::alloc::Global;
-use std::str::SplitWhitespace;
+use std::str::{FromStr, SplitWhitespace};
 
 #[derive(Drop)]
 pub struct Words<'a> {
     rest: SplitWhitespace<'a>,
+    heap: Global,
 }
 
 impl<'a> Words<'a> {
-    pub fn new(line: &'a str) -> Words<'a> {
+    pub fn new(line: &'a str, heap: Global) -> Words<'a> {
         Words {
             rest: line.split_whitespace(),
+            heap,
         }
     }
 
@@ -22,44 +25,20 @@ impl<'a> Words<'a> {
 
     // The next word, which has to be there.
     pub fn word(&mut self) -> Result<&'a str, Fault> {
-        match self.rest.next() {
-            Some(word) => Ok(word),
-            None => Err(Fault::WordMissing),
-        }
-    }
-
-    // All the words that are left.
-    pub fn rest(&mut self) -> SplitWhitespace<'a> {
-        std::mem::replace(&mut self.rest, "".split_whitespace())
+        self.next_word().ok_or(Fault::WordMissing)
     }
 
     // The line ends here.
     pub fn end(&mut self) -> Result<(), Fault> {
-        match self.rest.next() {
-            Some(_) => Err(Fault::WordsLeft),
-            None => Ok(()),
-        }
+        self.next_word().map_or(Ok(()), |_| Err(Fault::WordsLeft))
     }
 
-    pub fn slot(&mut self) -> Result<u16, Fault> {
-        match self.word()?.parse::<u16>() {
-            Ok(slot) => Ok(slot),
-            Err(_) => Err(Fault::NotANumber),
-        }
-    }
-
-    pub fn offset(&mut self) -> Result<u32, Fault> {
-        match self.word()?.parse::<u32>() {
-            Ok(offset) => Ok(offset),
-            Err(_) => Err(Fault::NotANumber),
-        }
-    }
-
-    pub fn count(&mut self) -> Result<usize, Fault> {
-        match self.word()?.parse::<usize>() {
-            Ok(count) => Ok(count),
-            Err(_) => Err(Fault::NotANumber),
-        }
+    // What the next word says.
+    pub fn read<T: FromStr>(&mut self) -> Result<T, Fault>
+    where
+        Fault: From<T::Err>,
+    {
+        Ok(self.word()?.parse::<T>()?)
     }
 
     // `0` for no, `1` for yes.
@@ -72,36 +51,26 @@ impl<'a> Words<'a> {
     }
 
     // Bytes in hexadecimal, or `-` for none.
-    pub fn bytes(&mut self, heap: Global) -> Result<Vec<u8>, Fault> {
-        let word = self.word()?;
-        let mut bytes = Vec::new(heap);
-        if word == "-" {
-            return Ok(bytes);
+    pub fn bytes(&mut self) -> Result<Vec<u8>, Fault> {
+        match self.word()? {
+            "-" => Ok(Vec::new(self.heap)),
+            // the crate takes upper case too, which scripts do not
+            word if word.bytes().any(|b| b.is_ascii_uppercase()) => Err(Fault::NotHexadecimal),
+            word => Ok(hex::decode(self.heap, word)?),
         }
-        for pair in word.as_bytes().chunks(2) {
-            match byte_of(pair) {
-                Some(b) => bytes.push(b)?,
-                None => return Err(Fault::NotHexadecimal),
-            }
+    }
+
+    // A value of the kind `T`.
+    pub fn value<T: Value>(&mut self) -> Result<T, Fault> {
+        T::read(self.word()?)
+    }
+
+    // The values of the kind `T` that all the words left say.
+    pub fn values<T: Value + Drop>(&mut self) -> Result<Vec<T>, Fault> {
+        let mut values = Vec::new(self.heap);
+        for word in self.rest.by_ref() {
+            values.push(T::read(word)?)?;
         }
-        Ok(bytes)
-    }
-}
-
-// The byte that two hexadecimal digits say.
-fn byte_of(pair: &[u8]) -> Option<u8> {
-    match pair {
-        [high, low] => digit_of(*high)?
-            .checked_mul(16)?
-            .checked_add(digit_of(*low)?),
-        _ => None,
-    }
-}
-
-fn digit_of(b: u8) -> Option<u8> {
-    match b {
-        b'0'..=b'9' => Some(b - b'0'),
-        b'a'..=b'f' => Some(b - b'a' + 10),
-        _ => None,
+        Ok(values)
     }
 }
