@@ -1,8 +1,7 @@
 -- How a call over the space becomes one of the builder.
-use Rattle.std.proofs.Common.{◌≡◌, ℕ, ◌+◌, ◌<◌, ◌≤◌, max, Bool, true, false, cond, not, ◌&&◌, eqb, leb, List, [], ◌∷◌, ◌++◌, length, Some, None, Ok, Err, Option, sym, refl, ap, ◌∙◌, subst, arith, length-append}
+use Rattle.std.proofs.Common.{◌≡◌, ℕ, ◌+◌, ◌<◌, max, Bool, true, false, cond, not, ◌&&◌, eqb, leb, List, [], ◌∷◌, ◌++◌, length, Some, None, Ok, Err, Option, Result, sym, refl, ap, ◌∙◌, subst, arith, length-append}
 use lib.ListN.{length-replicate}
-use Rattle.space.specs.Taken.{taken, Prepended, Fronted, Spaced}
-use Rattle.space.specs.declared.Space.{Space}
+use Rattle.space.specs.Taken.{Parts, Prepended, Fronted, Spaced}
 use Rattle.store.specs.declared.allocator.Allocator.{Ghosts}
 use Rattle.space.proofs.Spaces.{fronted_done, fronted_refused, fronted_spaced}
 use Rattle.std.specs.List.{AllByRecursion}
@@ -11,19 +10,22 @@ use Rattle.wire.specs.declared.refusal.Refusal.{Refusal}
 use Rattle.wire.specs.declared.refusal.Refusal.TheVariants.{Finished, NotFinished, Nested, NotOpen, Slot, Identifier, Offset, Text, TableTooLarge, MissingSlot, TooLong, Store, Full}
 use Rattle.wire.specs.Answers.{Why, Test, Where, decided, erased, number, ◌because◌}
 use Rattle.wire.proofs.Decided.{decided_err, decided_other, decided_pass}
-use Rattle.wire.proofs.Lists.{length_last}
 use Rattle.model.specs.Calls.{Call, Reply}
 use Rattle.model.specs.declared.field_loc.FieldLoc.{FieldLoc}
-use Rattle.model.specs.State.{Nest, State, vector}
+use Rattle.model.specs.State.{Nest, State, table, vector}
 use Rattle.model.specs.Tables.{record_slot, signed, table_bytes, table_offset, table_space, word_padding}
 use Rattle.wire.specs.Bytes.{zeros}
 use Rattle.wire.specs.Words.{le}
 use Rattle.model.specs.Steps as Steps
-use Rattle.model.specs.Steps.{answered, closed, effect, kept, needs, opened, record_in, returns, tests, with_string, wrote}
+use Rattle.model.specs.Steps.{answered, closed, effect, in_table, is_open, kept, needs, opened, record_in, records, returns, tests, with_string, wrote}
 use Rattle.builder.specs.declared.inner.Inner.{Inner}
 use Rattle.builder.specs.declared.builder.FlatBufferBuilder.{FlatBufferBuilder}
 use Rattle.builder.specs.declared.inner.Open.{Open}
-use Rattle.builder.specs.declared.inner.Open.TheVariants.{Table}
+use Rattle.builder.specs.declared.inner.Open.TheVariants.{Nothing, Table, Vector}
+use Rattle.builder.specs.Inner.{is_nothing, is_table}
+use Rattle.tables.specs.Fields.{fields}
+use Rattle.std.specs.Prelude.{if◌then◌else◌}
+use Rattle.wire.specs.Slots.{slot_stands}
 use Rattle.builder.specs.View.{nest_of, state_of, view, Did}
 
 -- what is left, by what was told
@@ -43,10 +45,6 @@ kept_done v x (t ∷ ts) next s e = by t.fails e (kept_done v x ts next s)
     by true e rest = let z : ◌≡◌ {A = ℕ} 0 1 = cc in absurd (omega arith)
     by false e rest = rest e
 
--- a test that is passed changes nothing of what is left
-pub kept_pass : (t : Test) (ts : List Test) (next s : State) → t.fails ≡ false → kept (t ∷ ts) next s ≡ kept ts next s
-kept_pass t ts next s e = rw e
-
 -- the tests before those of the call over the space
 module _ (s : State) (t : Test) (ts : List Test) (going : s.finished ≡ false) (pass : t.fails ≡ false) where
   pub pass_two : (y : Reply) → decided (s.finished because Finished ∷ t ∷ ts) y ≡ decided ts y
@@ -55,6 +53,37 @@ module _ (s : State) (t : Test) (ts : List Test) (going : s.finished ≡ false) 
 module _ (s : State) (t u : Test) (ts : List Test) (going : s.finished ≡ false) (pass : t.fails ≡ false) (more : u.fails ≡ false) where
   pub pass_three : (y : Reply) → decided (s.finished because Finished ∷ t ∷ u ∷ ts) y ≡ decided ts y
   pass_three y = pass_two s t (u ∷ ts) going pass y ∙ decided_pass y u ts more
+
+-- what is known after the checks before a call
+pub unfinished : {E : Type 0} (b : Bool) (x : Unit {0}) → ◌≡◌ {A = Result (Unit {0}) (Refusal E)} (Ok x) (if b then Err Finished else Ok tt) → b ≡ false
+unfinished false x e = refl
+unfinished true x e = let z : ◌≡◌ {A = ℕ} 0 1 = cc in absurd (omega arith)
+
+pub unnested : {E : Type 0} (b : Bool) (o : Open) (ls : List FieldLoc) (x : Unit {0}) → ◌≡◌ {A = Result (Unit {0}) (Refusal E)} (Ok x) (if b then Err Finished else if is_nothing o then Ok tt else Err Nested)
+    → (b ≡ false) × (is_open (nest_of o ls) ≡ false)
+unnested false Nothing ls x e = (refl, refl)
+unnested false (Table start) ls x e = let z : ◌≡◌ {A = ℕ} 0 1 = cc in absurd (omega arith)
+unnested false (Vector start size count) ls x e = let z : ◌≡◌ {A = ℕ} 0 1 = cc in absurd (omega arith)
+unnested true o ls x e = let z : ◌≡◌ {A = ℕ} 0 1 = cc in absurd (omega arith)
+
+-- a table is open, with these records, and the slot stands
+pub record SlotOf (o : Open) (n : ℕ) (ls : List FieldLoc) : Type 0 where
+  pub within : not (in_table (nest_of o ls)) ≡ false
+  pub stands : not (slot_stands n) ≡ false
+  pub its : records (nest_of o ls) ≡ ls
+  pub recorded : (off : ℕ) (ls' : List FieldLoc) → ls' ≡ record_slot n off ls → nest_of o ls' ≡ record_in n off (nest_of o ls)
+
+pub slot_open : {E : Type 0} (b : Bool) (o : Open) (n : ℕ) (ls : List FieldLoc) (x : Unit {0})
+    → ◌≡◌ {A = Result (Unit {0}) (Refusal E)} (Ok x) (if b then Err Finished else if is_table o then (if slot_stands n then Ok tt else Err Slot) else Err NotOpen) → (b ≡ false) × SlotOf o n ls
+slot_open {E} false (Table start) n ls x e =
+    (refl, record { within = refl; stands = by (slot_stands n) e; its = refl; recorded = λ off ls' is. ap (table start) is })
+  where
+    by : (t : Bool) → ◌≡◌ {A = Result (Unit {0}) (Refusal E)} (Ok x) (if t then Ok tt else Err Slot) → not t ≡ false
+    by true e = refl
+    by false e = let z : ◌≡◌ {A = ℕ} 0 1 = cc in absurd (omega arith)
+slot_open false Nothing n ls x e = let z : ◌≡◌ {A = ℕ} 0 1 = cc in absurd (omega arith)
+slot_open false (Vector start size count) n ls x e = let z : ◌≡◌ {A = ℕ} 0 1 = cc in absurd (omega arith)
+slot_open true o n ls x e = let z : ◌≡◌ {A = ℕ} 0 1 = cc in absurd (omega arith)
 
 -- tests turned round
 pub not_not : (a : Bool) → not a ≡ false → a ≡ true
@@ -90,9 +119,6 @@ pub slotted_is : (s : State) (n off l m a : ℕ) (u bytes : List ℕ) (nest' : N
     → ◌≡◌ {A = State} (record { limit = l; used = u; nest = nest'; finished = s.finished; met = m; forced = s.forced; vtables = s.vtables; strings = s.strings }) (opened (record_in n off s.nest) (wrote bytes a s))
 slotted_is s n off l m a u bytes nest' el eu em en = rw (el, eu, em, en)
 
-pub recorded_nest : (o : Open) (start n off : ℕ) (ls ls' : List FieldLoc) → o ≡ Table start → ls' ≡ record_slot n off ls → nest_of o ls' ≡ record_in n off (nest_of o ls)
-recorded_nest o start n off ls ls' eo el = rw (eo, el)
-
 -- the same with a string pooled
 pub pooled_is : (s : State) (l m : ℕ) (u bytes os : List ℕ) (o : ℕ) → l ≡ s.limit → u ≡ bytes ++ s.used → m ≡ max s.met 4 → os ≡ s.strings ++ o ∷ []
     → ◌≡◌ {A = State} (record { limit = l; used = u; nest = s.nest; finished = s.finished; met = m; forced = s.forced; vtables = s.vtables; strings = os }) (with_string o (wrote bytes 4 s))
@@ -103,44 +129,24 @@ pub closed_is : (s : State) (l m : ℕ) (u bytes vs : List ℕ) → l ≡ s.limi
     → ◌≡◌ {A = State} (record { limit = l; used = u; nest = s.nest; finished = true; met = m; forced = s.forced; vtables = vs; strings = s.strings }) (closed (wrote bytes 4 s))
 closed_is s l m u bytes vs el eu em ev = rw (el, eu, em, ev)
 
-module _ {S E : Type 0} (list : S → List ℕ) (limit : S → ℕ) (before after : Space S E) where
-  -- used bytes are no more than their count
-  pub taken_short : (s : Space S E) → length (taken list s) ≤ s.used
-  taken_short s = omega (arith, length_last s.used (list s.allocator))
-
+module _ {S E : Type 0} (before after : Parts S) where
   -- a refused call over the space left the used bytes and the limit
-  pub refused_used : (e : Refusal E) (bytes : List ℕ) → Where (leb 12 (number e)) (Prepended list limit before after false bytes) (after ≡ before)
-      → (taken list after ≡ taken list before) × (limit after.allocator ≡ limit before.allocator)
+  pub refused_used : (e : Refusal E) (bytes : List ℕ) → Where (leb 12 (number e)) (Prepended before after false bytes) (after ≡ before)
+      → (after.taken ≡ before.taken) × (after.limit ≡ before.limit)
   refused_used e bytes h = by (leb 12 (number e)) h
     where
-      by : (b : Bool) → Where b (Prepended list limit before after false bytes) (after ≡ before) → (taken list after ≡ taken list before) × (limit after.allocator ≡ limit before.allocator)
+      by : (b : Bool) → Where b (Prepended before after false bytes) (after ≡ before) → (after.taken ≡ before.taken) × (after.limit ≡ before.limit)
       by true p = (p.used, p.limited)
-      by false e = (ap (taken list) e, ap (λ (s : Space S E). limit s.allocator) e)
-
-  pub refused_short : (e : Refusal E) (bytes : List ℕ) (n : ℕ) → Where (leb 12 (number e)) (Prepended list limit before after false bytes) (after ≡ before)
-      → before.used ≤ n → after.used ≤ n
-  refused_short e bytes n h low = by (leb 12 (number e)) h
-    where
-      by : (b : Bool) → Where b (Prepended list limit before after false bytes) (after ≡ before) → after.used ≤ n
-      by true p = omega (arith, p.settled, ap length p.used, taken_short before)
-      by false e = omega (arith, ap (λ (s : Space S E). s.used) e)
+      by false e = (ap (λ (s : Parts S). s.taken) e, ap (λ (s : Parts S). s.limit) e)
 
 -- what is known of the store after a refusal, where its front is all that may have changed
-module _ {S E : Type 0} (list : S → List ℕ) (limit : S → ℕ) (before after : Space S E) (need : ℕ) where
-  pub fronted_limit : (e : Refusal E) → Where (leb 12 (number e)) (Fronted list limit before after need 0 (eqb (number e) 12)) (after ≡ before) → limit after.allocator ≡ limit before.allocator
+module _ {S E : Type 0} (before after : Parts S) (need : ℕ) where
+  pub fronted_limit : (e : Refusal E) → Where (leb 12 (number e)) (Fronted before after need 0 (eqb (number e) 12)) (after ≡ before) → after.limit ≡ before.limit
   fronted_limit e h = by (leb 12 (number e)) h
     where
-      by : (b : Bool) → Where b (Fronted list limit before after need 0 (eqb (number e) 12)) (after ≡ before) → limit after.allocator ≡ limit before.allocator
+      by : (b : Bool) → Where b (Fronted before after need 0 (eqb (number e) 12)) (after ≡ before) → after.limit ≡ before.limit
       by true p = p.limited
-      by false e = ap (λ (s : Space S E). limit s.allocator) e
-
-  pub fronted_short : (e : Refusal E) (n : ℕ) → Where (leb 12 (number e)) (Fronted list limit before after need 0 (eqb (number e) 12)) (after ≡ before)
-      → taken list after ≡ taken list before → before.used ≤ n → after.used ≤ n
-  fronted_short e n h same low = by (leb 12 (number e)) h
-    where
-      by : (b : Bool) → Where b (Fronted list limit before after need 0 (eqb (number e) 12)) (after ≡ before) → after.used ≤ n
-      by true p = omega (arith, p.bounded, ap length same, length_last before.used (list before.allocator))
-      by false e = omega (arith, ap (λ (s : Space S E). s.used) e)
+      by false e = ap (λ (s : Parts S). s.limit) e
 
 -- the used space after a table
 pub length_table : (used : ℕ) (vt : List ℕ) (found : Option ℕ) → length (table_bytes used vt found) + used ≡ table_space used vt found
@@ -183,86 +189,111 @@ told_few w (t ∷ ts) x few e = by t.fails e (told_few w ts x few.1)
     by true e rest = let same : w ≡ t.why = cc in subst (λ (v : Why). number v < 13) (sym same) few.0
     by false e rest = rest e
 
-module _ {S E : Type 0} {G : Ghosts S E} (list : S → List ℕ) (limit : S → ℕ) (old new : FlatBufferBuilder S E G) (c : Call) (same : new.inner ≡ old.inner) where
+-- a slot that is refused before anything else is looked at
+slot_told : {E : Type 0} (f : Bool) (o : Open) (t : Bool) (ls : List FieldLoc) (rest : List Test) (y : Reply) (e : Refusal E)
+    → ◌≡◌ {A = Result (Unit {0}) (Refusal E)} (Err e) (if f then Err Finished else if is_table o then (if t then Ok tt else Err Slot) else Err NotOpen)
+    → (Err (erased e) ≡ decided (f because Finished ∷ (not (in_table (nest_of o ls)) because NotOpen) ∷ (not t because Slot) ∷ rest) y) × (leb 12 (number e) ≡ false)
+slot_told true o t ls rest y e is = let same : e ≡ Finished = cc in rw same (refl, refl)
+slot_told false Nothing t ls rest y e is = let same : e ≡ NotOpen = cc in rw same (refl, refl)
+slot_told false (Vector start size count) t ls rest y e is = let same : e ≡ NotOpen = cc in rw same (refl, refl)
+slot_told false (Table start) false ls rest y e is = let same : e ≡ Slot = cc in rw same (refl, refl)
+slot_told false (Table start) true ls rest y e is = let z : ◌≡◌ {A = ℕ} 0 1 = cc in absurd (omega arith)
+
+module _ {S E : Type 0} {G : Ghosts S E} (b : FlatBufferBuilder S E G) (c : Call) where
+  pub slot_refused : {A : Type 0} (reply : A → Reply) (n : ℕ) (rest : List Test) (e : Refusal E)
+      → tests c (view b) ≡ ((view b).finished because Finished ∷ (not (in_table (view b).nest) because NotOpen) ∷ (not (slot_stands n) because Slot) ∷ rest)
+      → ◌≡◌ {A = Result (Unit {0}) (Refusal E)} (Err e) (if b.inner.finished then Err Finished else if is_table b.inner.nest then (if slot_stands n then Ok tt else Err Slot) else Err NotOpen)
+      → Did reply c b b (Err e)
+  slot_refused reply n rest e they is =
+      let s = view b in
+      let h = slot_told b.inner.finished b.inner.nest (slot_stands n) (fields b.inner.field_locs) rest (Steps.reply c s) e is in
+      let told : Err (erased e) ≡ answered c s = h.0 ∙ ap (λ (ts : List Test). decided ts (Steps.reply c s)) (sym they) in
+      record {
+        answer = told;
+        state = sym (kept_refused (erased e) (tests c s) (Steps.reply c s) (effect c s) s told);
+        store = rw h.1 refl;
+      }
+
+module _ {S E : Type 0} {G : Ghosts S E} (old new : FlatBufferBuilder S E G) (c : Call) (same : new.inner ≡ old.inner) where
   -- what a call over the space refused, the builder's call refuses
   pub did_refused_by : {A : Type 0} (reply : A → Reply) (e : Refusal E) (bytes : List ℕ)
-      → number (erased e) < 13 → Err (erased e) ≡ answered c (view list limit old)
-      → length (taken list old.space) + length bytes ≡ needs c (view list limit old)
-      → Where (leb 12 (number e)) (Prepended list limit old.space new.space false bytes) (new.space ≡ old.space)
-      → Did list limit reply c old new (Err e)
+      → number (erased e) < 13 → Err (erased e) ≡ answered c (view old)
+      → length old.space.taken + length bytes ≡ needs c (view old)
+      → Where (leb 12 (number e)) (Prepended old.space new.space false bytes) (new.space ≡ old.space)
+      → Did reply c old new (Err e)
   did_refused_by reply e bytes few told size space =
-      let s = view list limit old in
-      let used = refused_used list limit old.space new.space e bytes space in
+      let s = view old in
+      let used = refused_used old.space new.space e bytes space in
       let small : number e < 13 = subst (λ (n : ℕ). n < 13) (number_erased e) few in
       record {
         answer = told;
         state =
-            same_state _ (limit old.space.allocator) _ (taken list old.space) new.inner used.1 used.0
-            ∙ ap (state_of (limit old.space.allocator) (taken list old.space)) same
+            same_state _ old.space.limit _ old.space.taken new.inner used.1 used.0
+            ∙ ap (state_of old.space.limit old.space.taken) same
             ∙ sym (kept_refused (erased e) (tests c s) (Steps.reply c s) (effect c s) s told);
         store = asked (leb 12 (number e)) refl small space;
       }
     where
-      asked : (b : Bool) → b ≡ leb 12 (number e) → number e < 13 → Where b (Prepended list limit old.space new.space false bytes) (new.space ≡ old.space)
-          → Where b (Fronted list limit old.space new.space (needs c (view list limit old)) 0 (eqb (number e) 12)) (new.space ≡ old.space)
+      asked : (b : Bool) → b ≡ leb 12 (number e) → number e < 13 → Where b (Prepended old.space new.space false bytes) (new.space ≡ old.space)
+          → Where b (Fronted old.space new.space (needs c (view old)) 0 (eqb (number e) 12)) (new.space ≡ old.space)
       asked true is small p =
           let at : number e ≡ 12 = omega (arith, leb-true 12 (number e) (sym is)) in
-          subst (λ (r : Bool). Fronted list limit old.space new.space (needs c (view list limit old)) 0 r) (sym (eq-eqb (number e) 12 at))
-          (fronted_refused list limit old.space new.space bytes (needs c (view list limit old)) size p)
+          subst (λ (r : Bool). Fronted old.space new.space (needs c (view old)) 0 r) (sym (eq-eqb (number e) 12 at))
+          (fronted_refused old.space new.space bytes (needs c (view old)) size p)
       asked false is small q = q
 
   -- the same where the tests of the call over the space are the last ones
   pub did_refused : {A B : Type 0} (reply : A → Reply) (e : Refusal E) (ts : List Test) (x : B) (bytes : List ℕ)
-      → NotFull ts → Err (erased e) ≡ decided ts x → ((y : Reply) → decided (tests c (view list limit old)) y ≡ decided ts y)
-      → length (taken list old.space) + length bytes ≡ needs c (view list limit old)
-      → Where (leb 12 (number e)) (Prepended list limit old.space new.space false bytes) (new.space ≡ old.space)
-      → Did list limit reply c old new (Err e)
+      → NotFull ts → Err (erased e) ≡ decided ts x → ((y : Reply) → decided (tests c (view old)) y ≡ decided ts y)
+      → length old.space.taken + length bytes ≡ needs c (view old)
+      → Where (leb 12 (number e)) (Prepended old.space new.space false bytes) (new.space ≡ old.space)
+      → Did reply c old new (Err e)
   did_refused reply e ts x bytes few told pass size space =
       did_refused_by reply e bytes (told_few (erased e) ts x few told)
-      (decided_err (erased e) ts x (Steps.reply c (view list limit old)) told ∙ sym (pass (Steps.reply c (view list limit old)))) size space
+      (decided_err (erased e) ts x (Steps.reply c (view old)) told ∙ sym (pass (Steps.reply c (view old)))) size space
 
   -- room was made, and then a table of entries was full
-  pub did_full : {A : Type 0} (reply : A → Reply) (want : ℕ) → Err Full ≡ answered c (view list limit old)
-      → length (taken list old.space) + want ≡ needs c (view list limit old) → Spaced list limit old.space new.space true want → Did list limit reply c old new (Err Full)
+  pub did_full : {A : Type 0} (reply : A → Reply) (want : ℕ) → Err Full ≡ answered c (view old)
+      → length old.space.taken + want ≡ needs c (view old) → Spaced old.space new.space true want → Did reply c old new (Err Full)
   did_full reply want told size space =
-      let s = view list limit old in
+      let s = view old in
       record {
         answer = told;
         state =
-            same_state _ (limit old.space.allocator) _ (taken list old.space) new.inner space.limited space.kept
-            ∙ ap (state_of (limit old.space.allocator) (taken list old.space)) same
+            same_state _ old.space.limit _ old.space.taken new.inner space.limited space.kept
+            ∙ ap (state_of old.space.limit old.space.taken) same
             ∙ sym (kept_refused Full (tests c s) (Steps.reply c s) (effect c s) s told);
-        store = fronted_spaced list limit old.space new.space true want (needs c s) size space;
+        store = fronted_spaced old.space new.space true want (needs c s) size space;
       }
 
-module _ {S E : Type 0} {G : Ghosts S E} (list : S → List ℕ) (limit : S → ℕ) (old new : FlatBufferBuilder S E G) (c : Call) where
+module _ {S E : Type 0} {G : Ghosts S E} (old new : FlatBufferBuilder S E G) (c : Call) where
   -- what a call over the space did, the builder's call does
   pub did_done_by : {A : Type 0} (reply : A → Reply) (v : A) (bytes : List ℕ)
-      → Ok (reply v) ≡ answered c (view list limit old)
-      → view list limit new ≡ effect c (view list limit old)
-      → returns c (view list limit old) ≡ 0
-      → length (taken list old.space) + length bytes ≡ needs c (view list limit old)
-      → Prepended list limit old.space new.space true bytes
-      → Did list limit reply c old new (Ok v)
+      → Ok (reply v) ≡ answered c (view old)
+      → view new ≡ effect c (view old)
+      → returns c (view old) ≡ 0
+      → length old.space.taken + length bytes ≡ needs c (view old)
+      → Prepended old.space new.space true bytes
+      → Did reply c old new (Ok v)
   did_done_by reply v bytes told state none size space =
-      let s = view list limit old in
+      let s = view old in
       record {
         answer = told;
         state = state ∙ sym (kept_done (reply v) (Steps.reply c s) (tests c s) (effect c s) s told);
         store =
-            subst (λ (k : ℕ). Fronted list limit old.space new.space (needs c s) k false) (sym none)
-            (fronted_done list limit old.space new.space bytes (needs c s) size space);
+            subst (λ (k : ℕ). Fronted old.space new.space (needs c s) k false) (sym none)
+            (fronted_done old.space new.space bytes (needs c s) size space);
       }
 
   -- the same where the tests of the call over the space are the last ones
   pub did_done : {A B : Type 0} (reply : A → Reply) (v : A) (w x : B) (ts : List Test) (bytes : List ℕ)
-      → Ok w ≡ decided ts x → ((y : Reply) → decided (tests c (view list limit old)) y ≡ decided ts y)
-      → reply v ≡ Steps.reply c (view list limit old)
-      → view list limit new ≡ effect c (view list limit old)
-      → returns c (view list limit old) ≡ 0
-      → length (taken list old.space) + length bytes ≡ needs c (view list limit old)
-      → Prepended list limit old.space new.space true bytes
-      → Did list limit reply c old new (Ok v)
+      → Ok w ≡ decided ts x → ((y : Reply) → decided (tests c (view old)) y ≡ decided ts y)
+      → reply v ≡ Steps.reply c (view old)
+      → view new ≡ effect c (view old)
+      → returns c (view old) ≡ 0
+      → length old.space.taken + length bytes ≡ needs c (view old)
+      → Prepended old.space new.space true bytes
+      → Did reply c old new (Ok v)
   did_done reply v w x ts bytes told pass value state none size space =
-      let s = view list limit old in
+      let s = view old in
       did_done_by reply v bytes (ap Ok value ∙ decided_other w ts x (Steps.reply c s) told ∙ sym (pass (Steps.reply c s))) state none size space

@@ -4,7 +4,7 @@ use Rattle.model.specs.declared.field_loc.FieldLoc.{FieldLoc}
 use Rattle.model.specs.Calls.{Call, Reply, said}
 use Rattle.model.specs.State.{Nest, nothing, table, vector, State}
 use Rattle.model.specs.Steps.{after, answered, needs, returns}
-use Rattle.space.specs.Taken.{taken, Fronted}
+use Rattle.space.specs.Taken.{Fronted}
 use Rattle.store.specs.declared.allocator.Allocator.{Ghosts}
 use Rattle.tables.specs.Fields.{fields, offsets}
 use Rattle.wire.specs.declared.refusal.Refusal.{Refusal}
@@ -34,12 +34,12 @@ state_of limit used i =
       strings = offsets i.strings_pool;
     }
 
-module _ {S E : Type 0} {G : Ghosts S E} (list : S → List ℕ) (limit : S → ℕ) where
+module _ {S E : Type 0} {G : Ghosts S E} where
   abbrev pub view : FlatBufferBuilder S E G → State
-  view b = state_of (limit b.space.allocator) (taken list b.space) b.inner
+  view b = state_of b.space.limit b.space.taken b.inner
 
   -- What a call did that was told r: its answer, the state after it, and what it left of the store.
   pub record Did {A : Type 0} (reply : A → Reply) (c : Call) (old new : FlatBufferBuilder S E G) (r : Result A (Refusal E)) : Type 0 where
     pub answer : said reply r ≡ answered c (view old)
     pub state : view new ≡ after c (view old)
-    pub store : Asked r (Fronted list limit old.space new.space (needs c (view old)) (cond (is_ok r) (returns c (view old)) 0) (by_store r)) (new.space ≡ old.space)
+    pub store : Asked r (Fronted old.space new.space (needs c (view old)) (cond (is_ok r) (returns c (view old)) 0) (by_store r)) (new.space ≡ old.space)

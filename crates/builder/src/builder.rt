@@ -1,4 +1,4 @@
-ghost use Rattle.std.specs.Prelude.{◌≤◌};
+ghost use Rattle.std.specs.Prelude.{◌≤◌, length};
 
 use crate::inner::Inner;
 use space::Space;
@@ -9,5 +9,5 @@ use store::allocator::Allocator;
 pub struct FlatBufferBuilder<S: Allocator> {
     pub(crate) space: Space<S>,
     pub(crate) inner: Inner,
-    ghost short: { space.used ≤ 2147483647 },
+    ghost short: { length space.taken ≤ 2147483647 },
 }

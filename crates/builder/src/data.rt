@@ -2,7 +2,7 @@ ghost use Rattle.std.specs.Prelude.{◌≡◌, ◌+◌, [], length};
 ghost use Rattle.builder.specs.View.{view};
 ghost use Rattle.model.specs.Calls.{said, these, Call};
 ghost use Rattle.model.specs.Steps.{after, answered};
-ghost use Rattle.space.specs.Taken.{rest, taken, Released};
+ghost use Rattle.space.specs.Taken.{Released};
 
 use crate::builder::FlatBufferBuilder;
 use crate::inner::Open;
@@ -12,8 +12,8 @@ use wire::refusal::Refusal;
 impl<S: Allocator> FlatBufferBuilder<S> {
     // Zeroes the used bytes and gives them back; forgets all but whether defaults are forced.
     pub fn reset(&mut self)
-        ensures state { view S.Allocator.list S.Allocator.limit self.new ≡ after Call.reset (view S.Allocator.list S.Allocator.limit self.old) }
-        ensures store { Released S.Allocator.list S.Allocator.limit self.old.space self.new.space (length (taken S.Allocator.list self.old.space)) [] }
+        ensures state { view self.new ≡ after Call.reset (view self.old) }
+        ensures store { Released self.old.space self.new.space (length self.old.space.taken) [] }
     {
         let used = self.space.used();
         self.space.release(used);
@@ -27,7 +27,7 @@ impl<S: Allocator> FlatBufferBuilder<S> {
 
     // How many vtables were written since the reset; none once the buffer is finished.
     pub fn num_written_vtables(&self) -> usize
-        ensures { result ≡ length (view S.Allocator.list S.Allocator.limit self.now).vtables }
+        ensures { result ≡ length (view self.now).vtables }
     {
         self.inner.written_vtable_revpos.len()
     }
@@ -35,7 +35,7 @@ impl<S: Allocator> FlatBufferBuilder<S> {
     // The store, and where in its list the used bytes begin.
     pub fn collapse_in(self) -> (S, usize)
         ensures store { result.0 ≡ self.space.allocator }
-        ensures index { result.1 ≡ length (rest S.Allocator.list self.space) }
+        ensures index { result.1 ≡ length self.space.rest }
     {
         let FlatBufferBuilder { space, inner: _ } = self;
         let index = space.room();
@@ -46,7 +46,7 @@ impl<S: Allocator> FlatBufferBuilder<S> {
 impl<S: Contiguous> FlatBufferBuilder<S> {
     // The bytes of the finished buffer.
     pub fn finished_data(&self) -> Result<&[u8], Refusal<S::Error>>
-        ensures { said (λ x. these x.now) result ≡ answered Call.finished_data (view S.Allocator.list S.Allocator.limit self.now) }
+        ensures { said (λ x. these x.now) result ≡ answered Call.finished_data (view self.now) }
     {
         if !self.inner.finished {
             return Err(Refusal::NotFinished);
@@ -56,7 +56,7 @@ impl<S: Contiguous> FlatBufferBuilder<S> {
 
     // The used bytes, finished or not.
     pub fn unfinished_data(&self) -> &[u8]
-        ensures { result.now ≡ (view S.Allocator.list S.Allocator.limit self.now).used }
+        ensures { result.now ≡ (view self.now).used }
     {
         self.space.as_slice()
     }

@@ -17,15 +17,9 @@ impl<S: Allocator> FlatBufferBuilder<S> {
         file_identifier: Option<&[u8]>,
         size_prefixed: bool,
     ) -> Result<(), Refusal<S::Error>>
-        ensures { Did S.Allocator.list S.Allocator.limit (λ _. done) (Call.finish root (option_map (λ x. x.now) file_identifier.entry) size_prefixed) self.old self.new result }
+        ensures { Did (λ _. done) (Call.finish root (option_map (λ x. x.now) file_identifier.entry) size_prefixed) self.old self.new result }
     {
-        if self.inner.finished {
-            return Err(Refusal::Finished);
-        }
-        match self.inner.nest {
-            Open::Nothing => {}
-            _ => return Err(Refusal::Nested),
-        }
+        self.inner.assert_not_nested()?;
         finish(
             &mut self.space,
             root,
@@ -33,7 +27,7 @@ impl<S: Allocator> FlatBufferBuilder<S> {
             size_prefixed,
             self.inner.min_align,
         )?;
-        self.inner.min_align = self.inner.min_align.max(4);
+        self.inner.track_min_align(4);
         self.inner.written_vtable_revpos.clear();
         self.inner.finished = true;
         Ok(())
@@ -45,7 +39,7 @@ impl<S: Allocator> FlatBufferBuilder<S> {
         root: u32,
         file_identifier: Option<&[u8]>,
     ) -> Result<(), Refusal<S::Error>>
-        ensures { Did S.Allocator.list S.Allocator.limit (λ _. done) (Call.finish root (option_map (λ x. x.now) file_identifier.entry) false) self.old self.new result }
+        ensures { Did (λ _. done) (Call.finish root (option_map (λ x. x.now) file_identifier.entry) false) self.old self.new result }
     {
         self.finish_with_opts(root, file_identifier, false)
     }
@@ -56,14 +50,14 @@ impl<S: Allocator> FlatBufferBuilder<S> {
         root: u32,
         file_identifier: Option<&[u8]>,
     ) -> Result<(), Refusal<S::Error>>
-        ensures { Did S.Allocator.list S.Allocator.limit (λ _. done) (Call.finish root (option_map (λ x. x.now) file_identifier.entry) true) self.old self.new result }
+        ensures { Did (λ _. done) (Call.finish root (option_map (λ x. x.now) file_identifier.entry) true) self.old self.new result }
     {
         self.finish_with_opts(root, file_identifier, true)
     }
 
     // Finishes the buffer with a root alone.
     pub fn finish_minimal(&mut self, root: u32) -> Result<(), Refusal<S::Error>>
-        ensures { Did S.Allocator.list S.Allocator.limit (λ _. done) (Call.finish root None false) self.old self.new result }
+        ensures { Did (λ _. done) (Call.finish root None false) self.old self.new result }
     {
         self.finish_with_opts(root, no_identifier(), false)
     }

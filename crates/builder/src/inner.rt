@@ -2,6 +2,8 @@
 use tables::field_locs::FieldLocs;
 use tables::offsets::Offsets;
 
+pub mod checks;
+
 // What is under construction: a table that began at an offset, or a vector of `count` elements of `size` bytes.
 #[derive(Clone, Copy)]
 pub enum Open {

@@ -3,7 +3,6 @@ ghost use Rattle.builder.specs.View.{Did};
 ghost use Rattle.model.specs.Calls.{Call, Reply};
 
 use crate::builder::FlatBufferBuilder;
-use crate::inner::Open;
 use store::allocator::Allocator;
 use tables::offsets::ENTRIES;
 use vectors::string::{create_byte_string, room_for_string};
@@ -13,15 +12,9 @@ use wire::utf8::is_utf8;
 impl<S: Allocator> FlatBufferBuilder<S> {
     // The offset of an equal string pooled since the reset; else writes the text and pools it.
     pub fn create_shared_string(&mut self, text: &[u8]) -> Result<u32, Refusal<S::Error>>
-        ensures { Did S.Allocator.list S.Allocator.limit Reply.at (Call.create_shared_string text.now) self.old self.new result }
+        ensures { Did Reply.at (Call.create_shared_string text.now) self.old self.new result }
     {
-        if self.inner.finished {
-            return Err(Refusal::Finished);
-        }
-        match self.inner.nest {
-            Open::Nothing => {}
-            _ => return Err(Refusal::Nested),
-        }
+        self.inner.assert_not_nested()?;
         if !is_utf8(text) {
             return Err(Refusal::Text);
         }
@@ -34,7 +27,7 @@ impl<S: Allocator> FlatBufferBuilder<S> {
         }
         let off = create_byte_string(&mut self.space, text)?;
         let _ = self.inner.strings_pool.push(off);
-        self.inner.min_align = self.inner.min_align.max(4);
+        self.inner.track_min_align(4);
         Ok(off)
     }
 }

@@ -3,7 +3,6 @@ ghost use Rattle.builder.specs.View.{view, Did};
 ghost use Rattle.model.specs.Calls.{Call, Reply};
 ghost use Rattle.model.specs.State.{fresh};
 ghost use Rattle.model.specs.Steps.{after};
-ghost use Rattle.space.specs.Taken.{rest};
 
 use crate::builder::FlatBufferBuilder;
 use crate::inner::{Inner, Open};
@@ -16,8 +15,8 @@ use wire::refusal::Refusal;
 impl<S: Allocator> FlatBufferBuilder<S> {
     // A builder with no byte used, over a store of any length and content.
     pub fn new_in(allocator: S) -> FlatBufferBuilder<S>
-        ensures state { view S.Allocator.list S.Allocator.limit result ≡ fresh (S.Allocator.limit allocator) }
-        ensures store { rest S.Allocator.list result.space ≡ S.Allocator.list allocator }
+        ensures state { view result ≡ fresh (S.Allocator.limit allocator) }
+        ensures store { result.space.rest ≡ S.Allocator.list allocator }
     {
         let inner = Inner {
             field_locs: FieldLocs::new(),
@@ -36,7 +35,7 @@ impl<S: Allocator> FlatBufferBuilder<S> {
 
     // Whether values that equal their default are written too.
     pub fn force_defaults(&mut self, force_defaults: bool)
-        ensures state { view S.Allocator.list S.Allocator.limit self.new ≡ after (Call.force_defaults force_defaults) (view S.Allocator.list S.Allocator.limit self.old) }
+        ensures state { view self.new ≡ after (Call.force_defaults force_defaults) (view self.old) }
         ensures store { self.new.space ≡ self.old.space }
     {
         self.inner.force_defaults = force_defaults;
@@ -44,15 +43,9 @@ impl<S: Allocator> FlatBufferBuilder<S> {
 
     // Starts a table, and answers the used space.
     pub fn start_table(&mut self) -> Result<u32, Refusal<S::Error>>
-        ensures { Did S.Allocator.list S.Allocator.limit Reply.at Call.start_table self.old self.new result }
+        ensures { Did Reply.at Call.start_table self.old self.new result }
     {
-        if self.inner.finished {
-            return Err(Refusal::Finished);
-        }
-        match self.inner.nest {
-            Open::Nothing => {}
-            _ => return Err(Refusal::Nested),
-        }
+        self.inner.assert_not_nested()?;
         let start = self.space.used() as u32;
         self.inner.field_locs.clear();
         self.inner.nest = Open::Table(start);

@@ -11,11 +11,9 @@ use wire::refusal::Refusal;
 impl<S: Allocator> FlatBufferBuilder<S> {
     // Ends the table that began at an offset, and answers its own.
     pub fn end_table(&mut self, start: u32) -> Result<u32, Refusal<S::Error>>
-        ensures { Did S.Allocator.list S.Allocator.limit Reply.at (Call.end_table start) self.old self.new result }
+        ensures { Did Reply.at (Call.end_table start) self.old self.new result }
     {
-        if self.inner.finished {
-            return Err(Refusal::Finished);
-        }
+        self.inner.assert_not_finished()?;
         match self.inner.nest {
             Open::Table(begun) if start == begun => {}
             _ => return Err(Refusal::NotOpen),
@@ -27,7 +25,7 @@ impl<S: Allocator> FlatBufferBuilder<S> {
             start,
         )?;
         self.inner.nest = Open::Nothing;
-        self.inner.min_align = self.inner.min_align.max(4);
+        self.inner.track_min_align(4);
         Ok(off)
     }
 }

@@ -3,7 +3,7 @@ ghost use Rattle.builder.specs.View.{nest_of, Did};
 ghost use Rattle.model.specs.Calls.{done, Call, Reply};
 ghost use Rattle.model.specs.Steps.{ends_vector_lem};
 ghost use Rattle.model.specs.declared.field_loc.FieldLoc.{FieldLoc};
-ghost use Rattle.wire.specs.Pushed.{all_of, layout, pushed};
+ghost use Rattle.vectors.specs.Items.{item, item_layout, items_of};
 
 use crate::builder::FlatBufferBuilder;
 use crate::inner::Open;
@@ -15,45 +15,35 @@ use wire::refusal::Refusal;
 impl<S: Allocator> FlatBufferBuilder<S> {
     // Writes the items as a vector, in order, and answers its offset.
     pub fn create_vector<T: Kind>(&mut self, items: &[T]) -> Result<u32, Refusal<S::Error>>
-        ensures { Did S.Allocator.list S.Allocator.limit Reply.at (Call.create_vector (layout T.Kind.meaning T.Kind.lawful) (map (pushed T.Kind.meaning T.Kind.lawful) items.now) (all_of T.Kind.meaning T.Kind.lawful items.now)) self.old self.new result }
+        ensures { Did Reply.at (Call.create_vector (item_layout T.Kind) (map (item T.Kind) items.now) (items_of T.Kind items.now)) self.old self.new result }
     {
-        if self.inner.finished {
-            return Err(Refusal::Finished);
-        }
+        self.inner.assert_not_finished()?;
         let off = create_vector(&mut self.space, items)?;
-        self.inner.min_align = self.inner.min_align.max(T::alignment().max(4));
+        self.inner.track_min_align(T::alignment().max(4));
         Ok(off)
     }
 
     // Starts a vector of so many elements, which are then pushed one by one, the last first.
     pub fn start_vector<T: Kind>(&mut self, count: usize) -> Result<(), Refusal<S::Error>>
-        ensures { Did S.Allocator.list S.Allocator.limit (λ _. done) (Call.start_vector (layout T.Kind.meaning T.Kind.lawful) count) self.old self.new result }
+        ensures { Did (λ _. done) (Call.start_vector (item_layout T.Kind) count) self.old self.new result }
     {
-        if self.inner.finished {
-            return Err(Refusal::Finished);
-        }
-        match self.inner.nest {
-            Open::Nothing => {}
-            _ => return Err(Refusal::Nested),
-        }
+        self.inner.assert_not_nested()?;
         start_vector::<S, T>(&mut self.space, count)?;
-        self.inner.min_align = self.inner.min_align.max(T::alignment().max(4));
+        self.inner.track_min_align(T::alignment().max(4));
         self.inner.nest = Open::Vector(self.space.used() as u32, T::size(), count);
         Ok(())
     }
 
     // Ends a vector, and answers its offset.
     pub fn end_vector(&mut self, count: usize) -> Result<u32, Refusal<S::Error>>
-        ensures { Did S.Allocator.list S.Allocator.limit Reply.at (Call.end_vector count) self.old self.new result }
+        ensures { Did Reply.at (Call.end_vector count) self.old self.new result }
     {
-        if self.inner.finished {
-            return Err(Refusal::Finished);
-        }
+        self.inner.assert_not_finished()?;
         if !ends_vector(self.inner.nest, count, self.space.used()) {
             return Err(Refusal::NotOpen);
         }
         let off = end_vector(&mut self.space, count)?;
-        self.inner.min_align = self.inner.min_align.max(4);
+        self.inner.track_min_align(4);
         self.inner.nest = Open::Nothing;
         Ok(off)
     }

@@ -1,6 +1,5 @@
 // The work: a name and kerns written in front of the used bytes, and read back.
 ghost use Rattle.std.specs.Prelude.{◌≡◌, ◌-◌, true, length, is_ok, IfOk, if◌then◌else◌, Some, None, nat_le};
-ghost use Rattle.space.specs.Taken.{taken};
 ghost use Rattle.std.specs.Option.{option_map};
 ghost use Rattle.fontpack.specs.Job.{at_offset, count as count_of, kern_of, string as string_of, with_kerns, with_name};
 
@@ -25,8 +24,8 @@ pub fn write<S: Allocator>(
     name: &[u8],
     kerns: &[Kern],
 ) -> Result<Places, Refusal<S::Error>>
-    ensures used { is_ok result ≡ true → taken S.Allocator.list space.new ≡ with_kerns kerns.now (with_name name.now (taken S.Allocator.list space.old)) }
-    ensures places { IfOk result (λ p. (p.name ≡ length (with_name name.now (taken S.Allocator.list space.old))) × (p.kerns ≡ length (taken S.Allocator.list space.new))) }
+    ensures used { is_ok result ≡ true → space.new.taken ≡ with_kerns kerns.now (with_name name.now space.old.taken) }
+    ensures places { IfOk result (λ p. (p.name ≡ length (with_name name.now space.old.taken)) × (p.kerns ≡ length space.new.taken)) }
 {
     let name = create_byte_string(space, name)?;
     let kerns = create_vector(space, kerns)?;

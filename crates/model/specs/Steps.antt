@@ -6,13 +6,14 @@ use Rattle.wire.specs.Bytes.{zeros}
 use Rattle.wire.specs.Kind.{stands}
 use Rattle.wire.specs.Layouts.{pushed_bytes, pushed_offset, start_space, string_object_bytes, string_space, vector_bytes, vector_offset, vector_padding}
 use Rattle.wire.specs.Pushed.{Pushed}
+use Rattle.wire.specs.Slots.{slot_stands}
 use Rattle.wire.specs.Utf8.{well_formed}
 use Rattle.wire.specs.Words.{le, word}
 use Rattle.model.specs.declared.field_loc.FieldLoc.{FieldLoc}
 use Rattle.model.specs.Calls.{Call, push, push_slot, push_slot_always, start_table, end_table, start_vector, end_vector, create_vector, create_byte_string, create_string, create_shared_string, finish, required, reset, force_defaults, finished_data, Reply, done, at, these}
 use Rattle.model.specs.Finish.{finish_bytes, finish_space, finish_tests}
 use Rattle.model.specs.State.{Nest, nothing, table, vector, State, fresh}
-use Rattle.model.specs.Tables.{equal_object, lookup, no_room, record_slot, slot_stands, table_bytes, table_offset, table_returns, table_tests, table_vtable, table_vtables}
+use Rattle.model.specs.Tables.{equal_object, lookup, no_room, record_slot, table_bytes, table_offset, table_returns, table_tests, table_vtable, table_vtables}
 
 -- ---- what is open
 

@@ -8,10 +8,6 @@ use Rattle.wire.specs.Layouts.{padding}
 use Rattle.wire.specs.Words.{le}
 use Rattle.model.specs.declared.field_loc.FieldLoc.{FieldLoc}
 
--- slots are even, from 4 to 65,532
-abbrev pub slot_stands : ℕ → Bool
-slot_stands n = n % 2 == 0 && (nat_le 4 n && nat_le n 65532)
-
 -- the offset recorded at a slot
 abbrev pub lookup : ℕ → List FieldLoc → Option ℕ
 lookup s [] = None

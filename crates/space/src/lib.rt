@@ -3,28 +3,49 @@
 
 ghost use Rattle.std.specs.Prelude.{◌≡◌, ◌+◌, ◌≤◌, min, true, false, [], length, drop, is_ok, if◌then◌else◌, nat_le, slice_index};
 ghost use Rattle.wire.specs.Bytes.{raised, written, zeros};
-ghost use Rattle.space.specs.Taken.{taken, rest, Spaced, Placed, Prepended, Released};
+ghost use Rattle.space.specs.Taken.{Spaced, Placed, Prepended, Released};
 
+use std::marker::Model;
 use store::allocator::{Allocator, Contiguous};
 use wire::range::inside;
+
+// The used space never passes this.
+pub const MAX_SIZE: usize = 2147483647;
 
 // Zero bytes are written in runs of this length.
 const RUN: usize = 64;
 
-// The last `used` bytes of the store are used, or all where there are fewer.
+// The last `used` bytes of the store are used.
 #[derive(Drop)]
 pub struct Space<S: Allocator> {
     allocator: S,
     used: usize,
 }
 
+impl<S: Allocator> Model for Space<S> {
+    ghost use Rattle.std.specs.Prelude.{◌≤◌, length};
+    ghost use Rattle.wire.specs.Bytes.{front, last};
+    ghost use Rattle.space.specs.Taken.{Parts};
+
+    ghost Value = { Parts S };
+
+    ghost view = { λ s. record {
+      allocator = s.allocator;
+      rest = front s.used (S.Allocator.list s.allocator);
+      taken = last s.used (S.Allocator.list s.allocator);
+      limit = S.Allocator.limit s.allocator;
+    } };
+
+    ghost invariant = { λ s. s.used ≤ length (S.Allocator.list s.allocator) };
+}
+
 impl<S: Allocator> Space<S> {
     // Nothing of the store is used yet.
     pub fn new(allocator: S) -> Space<S>
-        ensures used { result.used ≡ 0 }
-        ensures taken { taken S.Allocator.list result ≡ [] }
-        ensures rest { rest S.Allocator.list result ≡ S.Allocator.list allocator }
-        ensures limit { S.Allocator.limit result.allocator ≡ S.Allocator.limit allocator }
+        ensures allocator { result.allocator ≡ allocator }
+        ensures rest { result.rest ≡ S.Allocator.list allocator }
+        ensures taken { result.taken ≡ [] }
+        ensures limit { result.limit ≡ S.Allocator.limit allocator }
     {
         Space { allocator, used: 0 }
     }
@@ -46,98 +67,83 @@ impl<S: Allocator> Space<S> {
 
     // How many bytes are used.
     pub fn used(&self) -> usize
-        ensures { result ≡ length (taken S.Allocator.list self.now) }
+        ensures { result ≡ length self.now.taken }
     {
-        self.used.min(self.allocator.len())
+        self.used
     }
 
     // How many bytes of the list are not used.
     pub fn room(&self) -> usize
-        ensures { result ≡ length (rest S.Allocator.list self.now) }
+        ensures { result ≡ length self.now.rest }
     {
-        let len = self.allocator.len();
-        len - self.used.min(len)
+        self.allocator.len() - self.used
     }
 
     // A used byte, 0 beyond their end.
     pub fn byte(&self, i: usize) -> u8
-        ensures { result ≡ slice_index (taken S.Allocator.list self.now) i }
+        ensures { result ≡ slice_index self.now.taken i }
     {
         let len = self.allocator.len();
-        let used = self.used.min(len);
-        if i >= used {
-            return 0;
-        }
-        match self.allocator.at(len - used + i) {
-            Some(b) => b,
-            None => 0,
+        if i < self.used {
+            self.allocator.at(len - self.used + i).unwrap_or(0)
+        } else {
+            0
         }
     }
 
     // Grows the store until `want` more bytes can be used.
     // Refuses just where the store's limit is too low, and the store then stands at its limit.
     pub fn make_space(&mut self, want: usize) -> Result<(), S::Error>
-        ensures { Spaced S.Allocator.list S.Allocator.limit self.old self.new (is_ok result) want }
+        ensures { Spaced self.old self.new (is_ok result) want }
     {
-        let used = self.used();
-        self.used = used;
-        grow_beyond(&mut self.allocator, used, want)
+        grow_beyond(&mut self.allocator, self.used, want)
     }
 
     // Puts bytes in front of the used ones where the list has room for them; else says no.
     pub fn put_front(&mut self, bytes: &[u8]) -> bool
-        ensures { Placed S.Allocator.list S.Allocator.limit self.old self.new result bytes.now }
+        ensures { Placed self.old self.new result bytes.now }
     {
         let len = self.allocator.len();
-        let used = self.used.min(len);
-        self.used = used;
         let count = bytes.len();
-        if count > len - used {
+        if count > len - self.used {
             return false;
         }
-        let _ = self.allocator.put(len - used - count, bytes);
-        self.used = used + count;
+        let _ = self.allocator.put(len - self.used - count, bytes);
+        self.used += count;
         true
     }
 
     // Puts zero bytes in front of the used ones where the list has room for them; else says no.
     pub fn put_zeros(&mut self, count: usize) -> bool
-        ensures { Placed S.Allocator.list S.Allocator.limit self.old self.new result (zeros count) }
+        ensures { Placed self.old self.new result (zeros count) }
     {
-        let len = self.allocator.len();
-        let used = self.used.min(len);
-        self.used = used;
-        if count > len - used {
+        if count > self.room() {
             return false;
         }
-        let mut left = count;
-        while left > 0 {
-            let run = left.min(RUN);
-            let _ = self.put_front(&[0; RUN][0..run]);
-            left -= run;
+        let run = [0; RUN];
+        for _ in 0..count / RUN {
+            let _ = self.put_front(&run);
         }
-        true
+        self.put_front(&run[..count % RUN])
     }
 
     // Replaces used bytes from the index `i` on, where they all lie inside the used ones; else says no.
     pub fn replace(&mut self, i: usize, bytes: &[u8]) -> bool
-        ensures value { result ≡ nat_le (i + length bytes.now) (length (taken S.Allocator.list self.old)) }
-        ensures taken { taken S.Allocator.list self.new ≡ (if result then written (taken S.Allocator.list self.old) i bytes.now else taken S.Allocator.list self.old) }
-        ensures rest { rest S.Allocator.list self.new ≡ rest S.Allocator.list self.old }
-        ensures used { self.new.used ≡ self.old.used }
-        ensures limit { S.Allocator.limit self.new.allocator ≡ S.Allocator.limit self.old.allocator }
+        ensures value { result ≡ nat_le (i + length bytes.now) (length self.old.taken) }
+        ensures taken { self.new.taken ≡ (if result then written self.old.taken i bytes.now else self.old.taken) }
+        ensures rest { self.new.rest ≡ self.old.rest }
+        ensures limit { self.new.limit ≡ self.old.limit }
     {
-        let len = self.allocator.len();
-        let used = self.used.min(len);
-        if !inside(i, bytes.len(), used) {
+        if !inside(i, bytes.len(), self.used) {
             return false;
         }
-        self.allocator.put(len - used + i, bytes)
+        let len = self.allocator.len();
+        self.allocator.put(len - self.used + i, bytes)
     }
 
     // Makes room for bytes and puts them in front of the used ones.
     pub fn prepend(&mut self, bytes: &[u8]) -> Result<(), S::Error>
-        ensures { Prepended S.Allocator.list S.Allocator.limit self.old self.new (is_ok result) bytes.now }
+        ensures { Prepended self.old self.new (is_ok result) bytes.now }
     {
         self.make_space(bytes.len())?;
         let _ = self.put_front(bytes);
@@ -146,7 +152,7 @@ impl<S: Allocator> Space<S> {
 
     // Makes room for zero bytes and puts them in front of the used ones.
     pub fn prepend_zeros(&mut self, count: usize) -> Result<(), S::Error>
-        ensures { Prepended S.Allocator.list S.Allocator.limit self.old self.new (is_ok result) (zeros count) }
+        ensures { Prepended self.old self.new (is_ok result) (zeros count) }
     {
         self.make_space(count)?;
         let _ = self.put_zeros(count);
@@ -155,24 +161,22 @@ impl<S: Allocator> Space<S> {
 
     // Zeroes the first `count` used bytes, or all where there are fewer, and gives them back.
     pub fn release(&mut self, count: usize)
-        ensures { Released S.Allocator.list S.Allocator.limit self.old self.new (min count (length (taken S.Allocator.list self.old))) (drop count (taken S.Allocator.list self.old)) }
+        ensures { Released self.old self.new (min count (length self.old.taken)) (drop count self.old.taken) }
     {
-        let used = self.used();
-        let back = count.min(used);
-        self.used = used - back;
+        let back = count.min(self.used);
+        self.used -= back;
         let _ = self.put_zeros(back);
-        self.used = used - back;
+        self.used -= back;
     }
 }
 
 impl<S: Contiguous> Space<S> {
     // The used bytes, as one part.
     pub fn as_slice(&self) -> &[u8]
-        ensures { result.now ≡ taken S.Allocator.list self.now }
+        ensures { result.now ≡ self.now.taken }
     {
         let bytes = self.allocator.as_slice();
-        let used = self.used.min(bytes.len());
-        &bytes[bytes.len() - used..]
+        &bytes[bytes.len() - self.used..]
     }
 }
 

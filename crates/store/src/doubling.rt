@@ -12,6 +12,7 @@ use wire::range::inside;
 pub struct Doubling<'a> {
     bytes: &'a mut [u8],
     len: usize,
+    ghost within: { len ≤ length bytes.now },
 }
 
 // The slice is used up.
@@ -32,13 +33,7 @@ fn doubled(len: usize, limit: usize) -> usize
     requires { len < limit }
     ensures { result ≡ min limit (max 1 (len + len)) }
 {
-    if len == 0 {
-        1
-    } else if len < limit - len {
-        len + len
-    } else {
-        limit
-    }
+    len.saturating_mul(2).max(1).min(limit)
 }
 
 // Moves the first `len` bytes to the end of the first `next`, and zeroes what was before them.
@@ -60,20 +55,16 @@ impl<'a> Allocator for Doubling<'a> {
     ghost within = { λ s. take_within s.len s.bytes.now };
 
     fn len(&self) -> usize {
-        self.len.min(self.bytes.len())
+        self.len
     }
 
     fn at(&self, i: usize) -> Option<u8> {
-        if i < self.len && i < self.bytes.len() {
-            Some(self.bytes[i])
-        } else {
-            None
-        }
+        self.as_slice().get(i).copied()
     }
 
     fn put(&mut self, start: usize, bytes: &[u8]) -> bool {
         let count = bytes.len();
-        if !inside(start, count, self.len.min(self.bytes.len())) {
+        if !inside(start, count, self.len) {
             return false;
         }
         self.bytes[start..start + count].copy_from_slice(bytes);
@@ -82,15 +73,14 @@ impl<'a> Allocator for Doubling<'a> {
 
     fn grow_downwards(&mut self) -> Result<(), SliceFull>
         ensures grown { Grown (take self.old.len self.old.bytes.now) (length self.old.bytes.now) (take self.new.len self.new.bytes.now) (length self.new.bytes.now) (is_ok result) }
-        ensures length { is_ok result ≡ true → self.new.len ≡ min (length self.old.bytes.now) (max 1 (2 * length (take self.old.len self.old.bytes.now))) }
+        ensures length { is_ok result ≡ true → self.new.len ≡ min (length self.old.bytes.now) (max 1 (2 * self.old.len)) }
     {
         let limit = self.bytes.len();
-        let len = self.len.min(limit);
-        if len == limit {
+        if self.len == limit {
             return Err(SliceFull);
         }
-        let next = doubled(len, limit);
-        move_up(self.bytes, len, next);
+        let next = doubled(self.len, limit);
+        move_up(self.bytes, self.len, next);
         self.len = next;
         Ok(())
     }
@@ -98,7 +88,6 @@ impl<'a> Allocator for Doubling<'a> {
 
 impl<'a> Contiguous for Doubling<'a> {
     fn as_slice(&self) -> &[u8] {
-        let len = self.len.min(self.bytes.len());
-        &self.bytes[0..len]
+        &self.bytes[..self.len]
     }
 }

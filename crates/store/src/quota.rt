@@ -74,10 +74,7 @@ impl<S: Allocator> Allocator for Quota<S> {
         if self.quota <= self.store.len() {
             return Err(QuotaError::Reached);
         }
-        match self.store.grow_downwards() {
-            Ok(()) => Ok(()),
-            Err(e) => Err(QuotaError::Store(e)),
-        }
+        self.store.grow_downwards().map_err(QuotaError::Store)
     }
 }
 

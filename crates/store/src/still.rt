@@ -50,11 +50,7 @@ impl Allocator for Still {
     }
 
     fn at(&self, i: usize) -> Option<u8> {
-        if i < self.len {
-            Some(self.bytes[SIZE - self.len + i])
-        } else {
-            None
-        }
+        self.as_slice().get(i).copied()
     }
 
     fn put(&mut self, start: usize, bytes: &[u8]) -> bool {

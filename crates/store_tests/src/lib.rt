@@ -7,7 +7,7 @@ mod tests {
     use std::process::Abort;
     use std::test::Fail;
     use store::allocator::{Allocator, Contiguous};
-    use store::doubling::Doubling;
+    use store::doubling::{Doubling, SliceFull};
     use store::quota::{Quota, QuotaError};
     use store::still::Still;
 
@@ -27,7 +27,7 @@ mod tests {
         limit: usize,
         quota: usize,
         lens: &[usize],
-        reached: bool,
+        refusal: QuotaError<SliceFull>,
     ) -> Result<(), Fail> {
         let mut memory = [7u8; 8];
         assert!(rt; limit <= 8);
@@ -37,30 +37,19 @@ mod tests {
             assert!(rt; store.grow_downwards().is_ok());
             assert!(rt; edges(&mut store, *len));
         }
-        match store.grow_downwards() {
-            Ok(()) => {
-                assert!(rt; false);
-                Ok(())
-            },
-            Err(QuotaError::Reached) => {
-                assert!(rt; reached);
-                Ok(())
-            },
-            Err(QuotaError::Store(_)) => {
-                assert!(rt; !reached);
-                Ok(())
-            },
-        }
+        assert_eq!(rt; store.grow_downwards(), Err(refusal));
+        Ok(())
     }
 
     #[test]
     fn growth(rt: HostRuntime) -> Result<(), Fail> {
-        grows(&rt, 0, 9, &[], false)?;
-        grows(&rt, 1, 9, &[1], false)?;
-        grows(&rt, 5, 9, &[1, 2, 4, 5], false)?;
-        grows(&rt, 4, 4, &[1, 2, 4], true)?;
-        grows(&rt, 8, 3, &[1, 2, 3], true)?;
-        grows(&rt, 8, 0, &[], true)
+        let full = QuotaError::Store(SliceFull);
+        grows(&rt, 0, 9, &[], full)?;
+        grows(&rt, 1, 9, &[1], full)?;
+        grows(&rt, 5, 9, &[1, 2, 4, 5], full)?;
+        grows(&rt, 4, 4, &[1, 2, 4], QuotaError::Reached)?;
+        grows(&rt, 8, 3, &[1, 2, 3], QuotaError::Reached)?;
+        grows(&rt, 8, 0, &[], QuotaError::Reached)
     }
 
     #[test]

@@ -1,231 +1,197 @@
--- Laws of `place_of`, `record-slot` and `lookup`.
-use Rattle.std.proofs.Common.{◌≡◌, ℕ, zero, suc, ◌+◌, ◌-◌, ◌<◌, ◌≤◌, Bool, true, cond, not, ◌&&◌, eqb, leb, List, [], ◌∷◌, ◌++◌, length, get_or, take, set, is_some, Some, None, Option, sym, refl, ap, ◌∙◌, subst, ⊎_elim, arith, length-set}
-use lib.Seq.{take-set-lt}
-use Rattle.std.proofs.lemmas.Bool.{eqb-true, eq-eqb, ne_eqb, cond_both, cases_eq, cases_lt, cond-true, cond-false, le-leb, lt-leb}
-use Rattle.std.proofs.lemmas.List.{take_more_set, length_push, get_or_append_left, get_or_push, length-take-le, get_or-take}
+-- Laws of `place_of`, `record_slot` and `lookup`.
+use Rattle.std.proofs.Common.{◌≡◌, ℕ, zero, suc, ◌+◌, ◌-◌, ◌<◌, ◌≤◌, Bool, true, false, cond, not, ◌&&◌, eqb, List, [], ◌∷◌, ◌++◌, length, get_or, take, set, is_some, Some, None, Option, Ok, Err, Result, is_ok, IsOk, OnOk, OnErr, ◌↔◌, sym, refl, ap, ◌∙◌, subst, ⊎_elim, arith, length-set}
+use Rattle.std.specs.List.{position, refill}
+use Rattle.arrayvec.specs.ArrayVec.{ArrayVec}
+use Rattle.std.proofs.lemmas.Bool.{eqb-true, eq-eqb, ne_eqb, cases_lt, cond-true, cond-false, le-leb, lt-leb, false≢true}
+use Rattle.std.proofs.lemmas.List.{take_all, take-append-le, length_push, get_or_append_left, get_or_push}
+use Rattle.std.proofs.lemmas.List.Folds.{position_or_len-set, position_or_len_push}
+use Rattle.std.proofs.lemmas.List.Sums.{prefix_len-le-length}
+use Rattle.std.proofs.lemmas.Grind.{common_steps}
+use Rattle.std.proofs.lemmas.List.Quantifiers.{position-Some}
 use Rattle.model.specs.declared.field_loc.FieldLoc.{FieldLoc}
-use Rattle.model.specs.Tables.{lookup, record_slot, no_room, distance, slot_stands}
+use Rattle.model.specs.Tables.{distance, lookup, no_room, record_slot}
+use Rattle.wire.specs.Slots.{slot_stands}
 use Rattle.tables.specs.Records.{none, place_of, Once, Slots}
 
-pub place_le : (rs : List FieldLoc) (s : ℕ) → place_of rs s ≤ length rs
-place_le [] s = omega arith
-place_le (r ∷ rs) s =
-    cond_both (eqb s r.id) 0 (suc (place_of rs s)) (λ x. x ≤ suc (length rs)) (λ e. omega arith) (λ e. omega (arith, place_le rs s))
+-- the place among one more record, by whether that is the slot's
+place_cons : (r : FieldLoc) (rs : List FieldLoc) (s : ℕ) (P : ℕ → Type 0) → (eqb s r.id ≡ true → P 0) → (eqb s r.id ≡ false → P (suc (place_of rs s))) → P (place_of (r ∷ rs) s)
+place_cons r rs s P = by (eqb s r.id)
+  where
+    by : (b : Bool) → (b ≡ true → P 0) → (b ≡ false → P (suc (place_of rs s))) → P (cond (not b) (1 + place_of rs s) 0)
+    by true here there = here refl
+    by false here there = let one : suc (place_of rs s) ≡ 1 + place_of rs s = omega arith in subst P one (there refl)
 
--- the first record of the slot is at i
-pub place_first : (rs : List FieldLoc) (s i : ℕ) → i < length rs → ((k : ℕ) → k < i → (get_or rs k none).id ≡ s → ⊥) → (get_or rs i none).id ≡ s → place_of rs s ≡ i
-place_first [] s i h below here = absurd (omega arith)
-place_first (r ∷ rs) s zero h below here = cond-true (eqb s r.id) 0 (suc (place_of rs s)) (eq-eqb s r.id (sym here))
-place_first (r ∷ rs) s (suc i) h below here =
-    cond-false (eqb s r.id) 0 (suc (place_of rs s)) (ne_eqb s r.id (λ e. below 0 (omega arith) (sym e)))
-    ∙ ap suc (place_first rs s i (omega arith) (λ k l. below (suc k) (omega arith)) here)
-
--- the slot has no record
-pub place_none : (rs : List FieldLoc) (s : ℕ) → ((k : ℕ) → k < length rs → (get_or rs k none).id ≡ s → ⊥) → place_of rs s ≡ length rs
-place_none [] s below = refl
-place_none (r ∷ rs) s below =
-    cond-false (eqb s r.id) 0 (suc (place_of rs s)) (ne_eqb s r.id (λ e. below 0 (omega arith) (sym e)))
-    ∙ ap suc (place_none rs s (λ k l. below (suc k) (omega arith)))
-
--- the record at the slot's place is the slot's
-place_id : (rs : List FieldLoc) (s : ℕ) → place_of rs s < length rs → (get_or rs (place_of rs s) none).id ≡ s
-place_id [] s = λ h. absurd (omega arith)
-place_id (r ∷ rs) s =
-    cond_both (eqb s r.id) 0 (suc (place_of rs s)) (λ x. x < suc (length rs) → (get_or (r ∷ rs) x none).id ≡ s)
-    (λ e h. sym (eqb-true s r.id e)) (λ e h. place_id rs s (omega arith))
-
--- a record that keeps its slot keeps all places
-place_set : (rs : List FieldLoc) (i : ℕ) (w : FieldLoc) (s : ℕ) → w.id ≡ (get_or rs i none).id → place_of (set rs i w) s ≡ place_of rs s
-place_set [] i w s e = refl
-place_set (r ∷ rs) zero w s e = ap (λ (x : ℕ). cond (eqb s x) 0 (suc (place_of rs s))) e
-place_set (r ∷ rs) (suc i) w s e = ap (λ (x : ℕ). cond (eqb s r.id) 0 (suc x)) (place_set rs i w s e)
-
-place_front : (rs ys : List FieldLoc) (s : ℕ) → place_of rs s < length rs → place_of (rs ++ ys) s ≡ place_of rs s
-place_front [] ys s = λ h. absurd (omega arith)
-place_front (r ∷ rs) ys s =
-    cond_both (eqb s r.id) 0 (suc (place_of rs s)) (λ x. x < suc (length rs) → cond (eqb s r.id) 0 (suc (place_of (rs ++ ys) s)) ≡ x)
-    (λ e h. cond-true (eqb s r.id) 0 (suc (place_of (rs ++ ys) s)) e)
-    (λ e h. cond-false (eqb s r.id) 0 (suc (place_of (rs ++ ys) s)) e ∙ ap suc (place_front rs ys s (omega arith)))
-
--- a new record of a slot that had none
-place_new : (rs : List FieldLoc) (w : FieldLoc) → place_of rs w.id ≡ length rs → place_of (rs ++ w ∷ []) w.id ≡ length rs
-place_new [] w = λ h. cond-true (eqb w.id w.id) 0 1 (eq-eqb w.id w.id refl)
-place_new (r ∷ rs) w =
-    cond_both (eqb w.id r.id) 0 (suc (place_of rs w.id))
-    (λ x. x ≡ suc (length rs) → cond (eqb w.id r.id) 0 (suc (place_of (rs ++ w ∷ []) w.id)) ≡ suc (length rs))
-    (λ e h. absurd (omega arith))
-    (λ e h. cond-false (eqb w.id r.id) 0 (suc (place_of (rs ++ w ∷ []) w.id)) e ∙ ap suc (place_new rs w (omega arith)))
-
-recorded_old : (rs : List FieldLoc) (s o : ℕ) → place_of rs s < length rs → record_slot s o rs ≡ set rs (place_of rs s) (record { off = o; id = s })
+pub recorded_old : (rs : List FieldLoc) (s o : ℕ) → place_of rs s < length rs → record_slot s o rs ≡ set rs (place_of rs s) (record { off = o; id = s })
 recorded_old [] s o = λ h. absurd (omega arith)
 recorded_old (r ∷ rs) s o =
-    cond_both (eqb s r.id) 0 (suc (place_of rs s)) (λ x. x < suc (length rs) → record_slot s o (r ∷ rs) ≡ set (r ∷ rs) x (record { off = o; id = s }))
+    place_cons r rs s (λ x. x < suc (length rs) → record_slot s o (r ∷ rs) ≡ set (r ∷ rs) x (record { off = o; id = s }))
     (λ e h. cond-true (eqb s r.id) (record { off = o; id = s } ∷ rs) (r ∷ record_slot s o rs) e)
     (λ e h. cond-false (eqb s r.id) (record { off = o; id = s } ∷ rs) (r ∷ record_slot s o rs) e ∙ ap (λ xs. r ∷ xs) (recorded_old rs s o (omega arith)))
 
-recorded_new : (rs : List FieldLoc) (s o : ℕ) → place_of rs s ≡ length rs → record_slot s o rs ≡ rs ++ record { off = o; id = s } ∷ []
+pub recorded_new : (rs : List FieldLoc) (s o : ℕ) → place_of rs s ≡ length rs → record_slot s o rs ≡ rs ++ record { off = o; id = s } ∷ []
 recorded_new [] s o = λ h. refl
 recorded_new (r ∷ rs) s o =
-    cond_both (eqb s r.id) 0 (suc (place_of rs s)) (λ x. x ≡ suc (length rs) → record_slot s o (r ∷ rs) ≡ (r ∷ rs) ++ record { off = o; id = s } ∷ [])
+    place_cons r rs s (λ x. x ≡ suc (length rs) → record_slot s o (r ∷ rs) ≡ (r ∷ rs) ++ record { off = o; id = s } ∷ [])
     (λ e h. absurd (omega arith))
     (λ e h. cond-false (eqb s r.id) (record { off = o; id = s } ∷ rs) (r ∷ record_slot s o rs) e ∙ ap (λ xs. r ∷ xs) (recorded_new rs s o (omega arith)))
 
 -- the offset recorded for a slot stands at its place
-lookup_found : (rs : List FieldLoc) (s : ℕ) → place_of rs s < length rs → lookup s rs ≡ Some (get_or rs (place_of rs s) none).off
+pub lookup_found : (rs : List FieldLoc) (s : ℕ) → place_of rs s < length rs → lookup s rs ≡ Some (get_or rs (place_of rs s) none).off
 lookup_found [] s = λ h. absurd (omega arith)
 lookup_found (r ∷ rs) s =
-    cond_both (eqb s r.id) 0 (suc (place_of rs s)) (λ x. x < suc (length rs) → lookup s (r ∷ rs) ≡ Some (get_or (r ∷ rs) x none).off)
+    place_cons r rs s (λ x. x < suc (length rs) → lookup s (r ∷ rs) ≡ Some (get_or (r ∷ rs) x none).off)
     (λ e h. cond-true (eqb s r.id) (Some r.off) (lookup s rs) e)
     (λ e h. cond-false (eqb s r.id) (Some r.off) (lookup s rs) e ∙ lookup_found rs s (omega arith))
-
-lookup_missing : (rs : List FieldLoc) (s : ℕ) → length rs ≤ place_of rs s → lookup s rs ≡ None
-lookup_missing [] s = λ h. refl
-lookup_missing (r ∷ rs) s =
-    cond_both (eqb s r.id) 0 (suc (place_of rs s)) (λ x. suc (length rs) ≤ x → lookup s (r ∷ rs) ≡ None)
-    (λ e h. absurd (omega arith))
-    (λ e h. cond-false (eqb s r.id) (Some r.off) (lookup s rs) e ∙ lookup_missing rs s (omega arith))
 
 -- nothing is recorded for a slot before its place
 pub lookup_before : (rs : List FieldLoc) (s j : ℕ) → j ≤ place_of rs s → lookup s (take j rs) ≡ None
 lookup_before rs s zero h = refl
 lookup_before [] s (suc j) h = refl
 lookup_before (r ∷ rs) s (suc j) h =
-    cond_both (eqb s r.id) 0 (suc (place_of rs s)) (λ x. suc j ≤ x → lookup s (r ∷ take j rs) ≡ None)
+    place_cons r rs s (λ x. suc j ≤ x → lookup s (r ∷ take j rs) ≡ None)
     (λ e l. absurd (omega arith))
     (λ e l. cond-false (eqb s r.id) (Some r.off) (lookup s (take j rs)) e ∙ lookup_before rs s j (omega arith)) h
 
--- a 257th record is one at the place 256
-full_place : (rs : List FieldLoc) (s : ℕ) → length rs ≤ 256 → (not (is_some (lookup s rs)) && no_room (length rs)) ≡ eqb (place_of rs s) 256
-full_place rs s few =
-    ⊎_elim
-    (λ (l : place_of rs s < length rs).
-    let e : lookup s rs ≡ Some (get_or rs (place_of rs s) none).off = lookup_found rs s l in
-    ap (λ (x : Option ℕ). not (is_some x) && no_room (length rs)) e ∙ sym (ne_eqb (place_of rs s) 256 (λ (is : place_of rs s ≡ 256). absurd (omega arith))))
-    (λ (l : length rs ≤ place_of rs s).
-    let e : lookup s rs ≡ None = lookup_missing rs s l in
-    let same : place_of rs s ≡ length rs = omega (arith, place_le rs s) in
-    ap (λ (x : Option ℕ). not (is_some x) && no_room (length rs)) e ∙ full (length rs) few ∙ ap (λ n. eqb n 256) (sym same))
-    (cases_lt (place_of rs s) (length rs))
-  where
-    full : (n : ℕ) → n ≤ 256 → leb 256 n ≡ eqb n 256
-    full n h = ⊎_elim
-        (λ (e : n ≡ 256). le-leb 256 n (omega arith) ∙ sym (eq-eqb n 256 e))
-        (λ (e : n ≡ 256 → ⊥). lt-leb 256 n (omega arith) ∙ sym (ne_eqb n 256 e))
-        (cases_eq n 256)
-
 -- the slots of the records stand still
-slots_new : (rs : List FieldLoc) (w : FieldLoc) → slot_stands w.id ≡ true → Slots rs → Slots (rs ++ w ∷ [])
+pub slots_new : (rs : List FieldLoc) (w : FieldLoc) → slot_stands w.id ≡ true → Slots rs → Slots (rs ++ w ∷ [])
 slots_new [] w e h zero l = e
 slots_new [] w e h (suc j) l = absurd (omega arith)
 slots_new (r ∷ rs) w e h zero l = h 0 (omega arith)
 slots_new (r ∷ rs) w e h (suc j) l = slots_new rs w e (λ k m. h (suc k) (omega arith)) j (omega arith)
 
-slots_set : (rs : List FieldLoc) (i : ℕ) (w : FieldLoc) → w.id ≡ (get_or rs i none).id → Slots rs → Slots (set rs i w)
-slots_set [] i w e h j l = absurd (omega arith)
-slots_set (r ∷ rs) zero w e h zero l = ap slot_stands e ∙ h 0 (omega arith)
-slots_set (r ∷ rs) zero w e h (suc j) l = h (suc j) l
-slots_set (r ∷ rs) (suc i) w e h zero l = h 0 (omega arith)
-slots_set (r ∷ rs) (suc i) w e h (suc j) l = slots_set rs i w e (λ k m. h (suc k) (omega arith)) j (omega arith)
+-- a record that keeps its slot
+same_id : (rs : List FieldLoc) (i : ℕ) (w : FieldLoc) (j : ℕ) → w.id ≡ (get_or rs i none).id → (get_or (set rs i w) j none).id ≡ (get_or rs j none).id
+same_id [] i w j e = refl
+same_id (r ∷ rs) zero w zero e = e
+same_id (r ∷ rs) zero w (suc j) e = refl
+same_id (r ∷ rs) (suc i) w zero e = refl
+same_id (r ∷ rs) (suc i) w (suc j) e = same_id rs i w j e
+
+pub slots_set : (rs : List FieldLoc) (i : ℕ) (w : FieldLoc) → w.id ≡ (get_or rs i none).id → Slots rs → Slots (set rs i w)
+slots_set rs i w e h j l = ap slot_stands (same_id rs i w j e) ∙ h j (omega (arith, length-set rs i w))
 
 -- the records stay one for each slot
-once_set : (rs : List FieldLoc) (i : ℕ) (w : FieldLoc) → i < length rs → w.id ≡ (get_or rs i none).id → Once rs → Once (set rs i w)
-once_set rs i w l e o j h =
-    let m : j < length rs = simp length-set at h in
-    place_set rs i w (get_or (set rs i w) j none).id e ∙ ap (place_of rs) (same_id rs i w j l e) ∙ o j m
-  where
-    same_id : (rs : List FieldLoc) (i : ℕ) (w : FieldLoc) (j : ℕ) → i < length rs → w.id ≡ (get_or rs i none).id → (get_or (set rs i w) j none).id ≡ (get_or rs j none).id
-    same_id [] i w j l e = refl
-    same_id (r ∷ rs) zero w zero l e = e
-    same_id (r ∷ rs) zero w (suc j) l e = refl
-    same_id (r ∷ rs) (suc i) w zero l e = refl
-    same_id (r ∷ rs) (suc i) w (suc j) l e = same_id rs i w j (omega arith) e
+pub once_set : (rs : List FieldLoc) (i : ℕ) (w : FieldLoc) → w.id ≡ (get_or rs i none).id → Once rs → Once (set rs i w)
+once_set rs i w e o j l =
+    let m : j < length rs = omega (arith, length-set rs i w) in
+    let s = (get_or (set rs i w) j none).id in
+    position_or_len-set (λ r. eqb s r.id) rs i w none (ap (eqb s) e) ∙ ap (place_of rs) (same_id rs i w j e) ∙ o j m
 
-once_new : (rs : List FieldLoc) (w : FieldLoc) → place_of rs w.id ≡ length rs → Once rs → Once (rs ++ w ∷ [])
+pub once_new : (rs : List FieldLoc) (w : FieldLoc) → place_of rs w.id ≡ length rs → Once rs → Once (rs ++ w ∷ [])
 once_new rs w new o j h =
     let n : length (rs ++ w ∷ []) ≡ length rs + 1 = length_push rs w in
     ⊎_elim
     (λ (l : j < length rs).
-    let d : get_or (rs ++ w ∷ []) j none ≡ get_or rs j none = get_or_append_left rs (w ∷ []) none j l in
-    let p : place_of rs (get_or rs j none).id ≡ j = o j l in
-    ap (λ x. place_of (rs ++ w ∷ []) x.id) d ∙ place_front rs (w ∷ []) (get_or rs j none).id (omega arith) ∙ p)
+    let s = (get_or rs j none).id in
+    ap (λ (x : FieldLoc). place_of (rs ++ w ∷ []) x.id) (get_or_append_left rs (w ∷ []) none j l) ∙ position_or_len_push (λ r. eqb s r.id) rs w
+    ∙ cond-false (eqb (place_of rs s) (length rs)) _ (place_of rs s) (ne_eqb _ _ (λ e. omega (arith, o j l))) ∙ o j l)
     (λ (l : length rs ≤ j).
     let e : length rs ≡ j = omega arith in
-    let d : get_or (rs ++ w ∷ []) j none ≡ w = get_or_push rs w none j e in
-    ap (λ x. place_of (rs ++ w ∷ []) x.id) d ∙ place_new rs w new ∙ e)
+    let last : cond (eqb (place_of rs w.id) (length rs)) (length rs + cond (eqb w.id w.id) 0 1) (place_of rs w.id) ≡ length rs + cond (eqb w.id w.id) 0 1 = cond-true _ _ _ (eq-eqb _ _ new) in
+    let same : cond {A = ℕ} (eqb w.id w.id) 0 1 ≡ 0 = cond-true _ 0 1 (eq-eqb w.id w.id refl) in
+    ap (λ (x : FieldLoc). place_of (rs ++ w ∷ []) x.id) (get_or_push rs w none j e) ∙ position_or_len_push (λ r. eqb w.id r.id) rs w ∙ last ∙ omega arith)
     (cases_lt j (length rs))
 
--- ---- over the first n of an array
+pub lookup_missing : (rs : List FieldLoc) (s : ℕ) → place_of rs s ≡ length rs → lookup s rs ≡ None
+lookup_missing rs s h = ap (lookup s) (sym (take_all (length rs) rs (omega arith))) ∙ lookup_before rs s (length rs) (omega arith)
 
-pub full_at : (xs : List FieldLoc) (n s i : ℕ) → n ≤ length xs → n ≤ 256 → i ≡ place_of (take n xs) s → not (not (is_some (lookup s (take n xs))) && no_room (length (take n xs))) ≡ not (eqb i 256)
-full_at xs n s i fit few here =
-    let len : length (take n xs) ≡ n = length-take-le n xs fit in
-    ap not (full_place (take n xs) s (omega arith) ∙ ap (λ (k : ℕ). eqb k 256) (sym here))
+-- ---- what a search for the slot's record says
 
--- a slot that stands is recorded where there is room
-pub allowed : (a b x : Bool) → a ≡ true → b ≡ x → x ≡ (a && b)
-allowed a b x e f = sym (ap (λ t. t && b) e ∙ f)
+abbrev search_for : List FieldLoc → ℕ → Option ℕ
+search_for rs s = position (λ r. eqb s r.id) rs
 
--- a recorded distance, by the place of its record
-pub distance_found : (xs : List FieldLoc) (n slot t place : ℕ) → n ≤ length xs → place ≡ place_of (take n xs) slot → place < n → t - (get_or xs place none).off ≡ distance t (lookup slot (take n xs))
-distance_found xs n slot t place fit at l =
-    let len = length-take-le n xs fit in
-    ap (λ (r : FieldLoc). t - r.off) (sym (get_or-take n xs place none l)) ∙ ap (λ (k : ℕ). t - (get_or (take n xs) k none).off) at
-    ∙ ap (distance t) (sym (lookup_found (take n xs) slot (omega arith)))
+absent : (rs : List FieldLoc) (s : ℕ) → search_for rs s ≡ None → place_of rs s ≡ length rs
+absent rs s e =
+    let most = prefix_len-le-length (λ (r : FieldLoc). not (eqb s r.id)) rs in
+    let least : length rs ≤ place_of rs s = grind (arith, common_steps) in
+    omega arith
 
-pub distance_missing : (xs : List FieldLoc) (n slot t place : ℕ) → n ≤ length xs → place ≡ place_of (take n xs) slot → n ≤ place → 0 ≡ distance t (lookup slot (take n xs))
-distance_missing xs n slot t place fit at l =
-    let len = length-take-le n xs fit in ap (distance t) (sym (lookup_missing (take n xs) slot (omega arith)))
+pub distance_missing : (rs : List FieldLoc) (s t : ℕ) → search_for rs s ≡ None → 0 ≡ distance t (lookup s rs)
+distance_missing rs s t e = ap (distance t) (sym (lookup_missing rs s (absent rs s e)))
 
--- the record at place i is replaced
-module _ (xs : List FieldLoc) (n s o i : ℕ) (w : FieldLoc) (fit : n ≤ length xs) (l : i < n) (here : i ≡ place_of (take n xs) s) (is : w ≡ record { off = o; id = (get_or xs i none).id }) where
-  len_old : length (take n xs) ≡ n
-  len_old = length-take-le n xs fit
+-- a record is found at i; xs are the records as they are lent
+module _ (rs xs : List FieldLoc) (s i : ℕ) (same : xs ≡ rs) (found : search_for rs s ≡ Some i) where
+  inside : i < length rs
+  inside = (position-Some (λ r. eqb s r.id) rs i none found).0
 
-  id_old : (get_or xs i none).id ≡ s
-  id_old =
-      let len = len_old in
-      ap (λ (x : FieldLoc). x.id) (sym (get_or-take n xs i none l)) ∙ ap (λ k. (get_or (take n xs) k none).id) here ∙ place_id (take n xs) s (omega arith)
+  at : place_of rs s ≡ i
+  at = grind (arith, common_steps)
 
-  kept_id : w.id ≡ (get_or (take n xs) i none).id
-  kept_id = ap (λ (x : FieldLoc). x.id) is ∙ ap (λ (x : FieldLoc). x.id) (sym (get_or-take n xs i none l))
+  here : (get_or rs i none).id ≡ s
+  here = sym (eqb-true s _ (position-Some (λ r. eqb s r.id) rs i none found).1)
 
-  pub replaced : take n (set xs i w) ≡ record_slot s o (take n xs)
-  replaced =
-      let len = len_old in
-      let new : w ≡ record { off = o; id = s } = is ∙ ap (λ k. record { off = o; id = k }) id_old in
-      take-set-lt n xs i w l ∙ ap (set (take n xs) i) new ∙ ap (λ k. set (take n xs) k (record { off = o; id = s })) here
-      ∙ sym (recorded_old (take n xs) s o (omega arith))
+  has : lookup s rs ≡ Some (get_or rs i none).off
+  has = let l = inside in let e = at in lookup_found rs s (omega arith) ∙ ap (λ (k : ℕ). Some (get_or rs k none).off) e
 
-  pub replaced_once : Once (take n xs) → Once (take n (set xs i w))
-  replaced_once o' =
-      let len = len_old in
-      subst Once (sym (take-set-lt n xs i w l)) (once_set (take n xs) i w (omega arith) kept_id o')
+  pub distance_found : (t : ℕ) → t - (get_or xs i none).off ≡ distance t (lookup s rs)
+  distance_found t = ap (λ (ys : List FieldLoc). t - (get_or ys i none).off) same ∙ ap (distance t) (sym has)
 
-  pub replaced_slots : Slots (take n xs) → Slots (take n (set xs i w))
-  replaced_slots h = subst Slots (sym (take-set-lt n xs i w l)) (slots_set (take n xs) i w kept_id h)
+  pub allowed_old : slot_stands s ≡ true → true ≡ (slot_stands s && not (not (is_some (lookup s rs)) && no_room (length rs)))
+  allowed_old h = sym (ap (λ b. b && not (not (is_some (lookup s rs)) && no_room (length rs))) h ∙ ap (λ o. not (not (is_some o) && no_room (length rs))) has)
 
--- a new record is put last
-module _ (xs : List FieldLoc) (n s o i : ℕ) (fit : n ≤ length xs) (room : i < length xs) (l : n ≤ i) (here : i ≡ place_of (take n xs) s) where
-  len_new : length (take n xs) ≡ n
-  len_new = length-take-le n xs fit
+  -- its offset is changed
+  module _ (o : ℕ) where
+    abbrev moved : List FieldLoc
+    moved = refill (length rs) rs (set xs i (record { off = o; id = (get_or xs i none).id }))
 
-  last_place : n ≡ i
-  last_place = let len = len_new in omega (arith, place_le (take n xs) s)
+    set_at : moved ≡ set rs i (record { off = o; id = (get_or rs i none).id })
+    set_at =
+        let long = length-set rs i (record { off = o; id = (get_or rs i none).id }) in
+        ap (λ ys. refill (length rs) rs (set ys i (record { off = o; id = (get_or ys i none).id }))) same
+        ∙ take-append-le (length rs) _ _ (omega arith) ∙ take_all (length rs) _ (omega arith)
 
-  pushed_last : take (i + 1) (set xs i (record { off = o; id = s })) ≡ take n xs ++ record { off = o; id = s } ∷ []
-  pushed_last = take_more_set xs i (record { off = o; id = s }) room ∙ ap (λ k. take k xs ++ record { off = o; id = s } ∷ []) (sym last_place)
+    pub moved_recorded : moved ≡ record_slot s o rs
+    moved_recorded =
+        let l = inside in
+        let e = at in
+        set_at ∙ ap (λ k. set rs i (record { off = o; id = k })) here ∙ ap (λ k. set rs k (record { off = o; id = s })) (sym e) ∙ sym (recorded_old rs s o (omega arith))
 
-  pub appended : take (i + 1) (set xs i (record { off = o; id = s })) ≡ record_slot s o (take n xs)
-  appended =
-      let len = len_new in
-      let e = last_place in
-      pushed_last ∙ sym (recorded_new (take n xs) s o (omega arith))
+    pub moved_once : Once rs → Once moved
+    moved_once h = subst Once (sym set_at) (once_set rs i _ refl h)
 
-  pub appended_once : Once (take n xs) → Once (take (i + 1) (set xs i (record { off = o; id = s })))
-  appended_once o' =
-      let len = len_new in
-      let e = last_place in
-      subst Once (sym pushed_last) (once_new (take n xs) (record { off = o; id = s }) (omega arith) o')
+    pub moved_slots : Slots rs → Slots moved
+    moved_slots h = subst Slots (sym set_at) (slots_set rs i _ refl h)
 
-  pub appended_slots : slot_stands s ≡ true → Slots (take n xs) → Slots (take (i + 1) (set xs i (record { off = o; id = s })))
-  appended_slots e h = subst Slots (sym pushed_last) (slots_new (take n xs) (record { off = o; id = s }) e h)
+-- no record is found, and one more is pushed where there is room
+module _ {A E : Type 0} (v w : ArrayVec FieldLoc) (s o : ℕ) (r : Result A E) (missing : search_for v.items s ≡ None)
+    (ok : OnOk r (w.items ≡ v.items ++ record { off = o; id = s } ∷ [])) (err : OnErr r (w ≡ v)) where
+  pub pushed_recorded : w.items ≡ cond (is_ok r) (record_slot s o v.items) v.items
+  pushed_recorded = by r ok err
+    where
+      by : (q : Result A E) → OnOk q (w.items ≡ v.items ++ record { off = o; id = s } ∷ []) → OnErr q (w ≡ v) → w.items ≡ cond (is_ok q) (record_slot s o v.items) v.items
+      by (Ok x) k e = k ∙ sym (recorded_new v.items s o (absent v.items s missing))
+      by (Err x) k e = ap (λ (u : ArrayVec FieldLoc). u.items) e
+
+  pub pushed_once : Once v.items → Once w.items
+  pushed_once h = by r ok err
+    where
+      by : (q : Result A E) → OnOk q (w.items ≡ v.items ++ record { off = o; id = s } ∷ []) → OnErr q (w ≡ v) → Once w.items
+      by (Ok x) k e = subst Once (sym k) (once_new v.items _ (absent v.items s missing) h)
+      by (Err x) k e = subst (λ (u : ArrayVec FieldLoc). Once u.items) (sym e) h
+
+  pub pushed_slots : slot_stands s ≡ true → Slots v.items → Slots w.items
+  pushed_slots stands h = by r ok err
+    where
+      by : (q : Result A E) → OnOk q (w.items ≡ v.items ++ record { off = o; id = s } ∷ []) → OnErr q (w ≡ v) → Slots w.items
+      by (Ok x) k e = subst Slots (sym k) (slots_new v.items _ stands h)
+      by (Err x) k e = subst (λ (u : ArrayVec FieldLoc). Slots u.items) (sym e) h
+
+pub allowed_new : {A E : Type 0} (rs : List FieldLoc) (s : ℕ) (r : Result A E) → search_for rs s ≡ None → slot_stands s ≡ true → IsOk r ↔ (length rs < 256)
+    → is_ok r ≡ (slot_stands s && not (not (is_some (lookup s rs)) && no_room (length rs)))
+allowed_new {A} {E} rs s r missing h room =
+    by r room ∙ sym (ap (λ b. b && not (not (is_some (lookup s rs)) && no_room (length rs))) h ∙ ap (λ o. not (not (is_some o) && no_room (length rs))) (lookup_missing rs s (absent rs s missing)))
+  where
+    not_lt : (m n : ℕ) → (m < n → ⊥) → n ≤ m
+    not_lt m n h = ⊎_elim (λ l. absurd (h l)) (λ l. l) (cases_lt m n)
+
+    by : (q : Result A E) → IsOk q ↔ (length rs < 256) → is_ok q ≡ not (no_room (length rs))
+    by (Ok x) k = sym (ap not (lt-leb 256 (length rs) (k.0 refl)))
+    by (Err x) k = sym (ap not (le-leb 256 (length rs) (not_lt (length rs) 256 (λ l. false≢true (k.1 l)))))
+
+-- a full list has no room for another slot
+pub full_allows : (rs : List FieldLoc) (s : ℕ) → 256 ≤ length rs → is_some (search_for rs s) ≡ not (not (is_some (lookup s rs)) && no_room (length rs))
+full_allows rs s full = by (search_for rs s) refl
+  where
+    by : (q : Option ℕ) → search_for rs s ≡ q → is_some q ≡ not (not (is_some (lookup s rs)) && no_room (length rs))
+    by (Some i) e = sym (ap (λ o. not (not (is_some o) && no_room (length rs))) (has rs rs s i refl e))
+    by None e = sym (ap not (le-leb 256 (length rs) full)) ∙ sym (ap (λ o. not (not (is_some o) && no_room (length rs))) (lookup_missing rs s (absent rs s e)))

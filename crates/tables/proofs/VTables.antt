@@ -1,14 +1,17 @@
 -- Laws of a vtable's length and words.
-use Rattle.std.proofs.Common.{◌≡◌, ℕ, zero, suc, ◌+◌, ◌-◌, ◌*◌, ◌/◌, ◌%◌, ◌<◌, ◌≤◌, max, Bool, true, false, cond, ◌&&◌, eqb, leb, List, [], ◌∷◌, ◌++◌, length, get_or, take, drop, Some, None, Option, sym, refl, ap, ◌∙◌, ⊎_elim, arith}
-use Rattle.std.proofs.lemmas.List.{take_more, take_all}
+use Rattle.std.proofs.Common.{◌≡◌, ℕ, zero, suc, ◌+◌, ◌-◌, ◌*◌, ◌/◌, ◌%◌, ◌<◌, ◌≤◌, max, Bool, true, false, cond, ◌&&◌, eqb, leb, List, [], ◌∷◌, ◌++◌, length, get_or, take, drop, Some, None, Option, sym, refl, ap, ◌∙◌, subst, ⊎_elim, arith, length-append}
+use Rattle.std.proofs.lemmas.List.{drop_at, take_more, take_all}
 use Rattle.std.proofs.lemmas.Bool.{and_parts, cases_eq, cond-true, cond-false, eq-eqb, ne_eqb, eqb-true, leb-true}
 use Rattle.wire.specs.Bytes.{written, zeros}
+use Rattle.wire.specs.Slots.{slot_stands}
 use Rattle.wire.specs.Words.{le}
 use Rattle.wire.proofs.Lists.{written_append}
 use Rattle.model.specs.declared.field_loc.FieldLoc.{FieldLoc}
-use Rattle.model.specs.Tables.{distance, lookup, slot_stands, slot_words, vtable_bytes, vtable_length}
+use Rattle.model.specs.Tables.{distance, lookup, slot_words, vtable_bytes, vtable_length}
 use Rattle.tables.specs.Records.{none, Once, Slots}
-use Rattle.tables.specs.Writing.{part}
+use Rattle.tables.specs.Fields.{fields}
+use Rattle.tables.specs.Writing.{vtable_of}
+use Rattle.tables.specs.declared.vtable_writer.VTableWriter.{VTableWriter}
 use Rattle.tables.proofs.Places.{lookup_before}
 
 -- ---- its length
@@ -20,7 +23,7 @@ length_push (x ∷ rs) r = omega (arith, length_push rs r)
 pub length_more : (xs : List FieldLoc) (i : ℕ) → i < length xs → vtable_length (take (i + 1) xs) ≡ max (vtable_length (take i xs)) ((get_or xs i none).id + 2)
 length_more xs i h = ap vtable_length (take_more xs i none h) ∙ length_push (take i xs) (get_or xs i none)
 
-pub slot_parts : (s : ℕ) → slot_stands s ≡ true → (s % 2 ≡ 0) × (4 ≤ s) × (s ≤ 65532)
+slot_parts : (s : ℕ) → slot_stands s ≡ true → (s % 2 ≡ 0) × (4 ≤ s) × (s ≤ 65532)
 slot_parts s h =
     let p = and_parts (eqb (s % 2) 0) (leb 4 s && leb s 65532) h in
     let q = and_parts (leb 4 s) (leb s 65532) p.1 in
@@ -33,7 +36,7 @@ len_bounds (r ∷ rs) h =
     let rest = len_bounds rs (λ j l. h (suc j) (omega arith)) in
     (omega arith, omega arith, omega arith)
 
-pub slot_below : (rs : List FieldLoc) (j : ℕ) → j < length rs → (get_or rs j none).id + 2 ≤ vtable_length rs
+slot_below : (rs : List FieldLoc) (j : ℕ) → j < length rs → (get_or rs j none).id + 2 ≤ vtable_length rs
 slot_below [] j h = absurd (omega arith)
 slot_below (r ∷ rs) zero h = omega arith
 slot_below (r ∷ rs) (suc j) h = let e = slot_below rs j (omega arith) in omega arith
@@ -42,13 +45,33 @@ length_words : (t : ℕ) (ls : List FieldLoc) (s n : ℕ) → length (slot_words
 length_words t ls s zero = refl
 length_words t ls s (suc n) = let e = length_words t ls (s + 2) n in omega arith
 
-pub length_vtable : (t size : ℕ) (ls : List FieldLoc) → Slots ls → length (vtable_bytes t size ls) ≡ vtable_length ls
+length_vtable : (t size : ℕ) (ls : List FieldLoc) → Slots ls → length (vtable_bytes t size ls) ≡ vtable_length ls
 length_vtable t size ls slots =
     let e = length_words t ls 4 ((vtable_length ls - 4) / 2) in
     let b = len_bounds ls slots in
     omega arith
 
+-- the vtable that is written is as long as its writer says, and its length is even
+pub writer_bounds : (w : VTableWriter) → (w.len ≡ length (vtable_of w)) × (4 ≤ w.len) × (w.len ≤ 65534) × (w.len % 2 ≡ 0)
+writer_bounds w =
+    let slots = w.field_locs.now.slots in
+    let b = len_bounds (fields w.field_locs.now) slots in
+    let e = w.long in
+    (e ∙ sym (length_vtable w.table w.size (fields w.field_locs.now) slots), omega arith, omega arith, ap (λ (n : ℕ). n % 2) e ∙ b.2)
+
 -- ---- its bytes
+
+-- the low or the high byte of a word of two, for an even or an odd place
+abbrev pub part : ℕ → ℕ → ℕ
+part w i = cond (eqb (i % 2) 0) (w % 256) (w / 256 % 256)
+
+pub part_of : (w i : ℕ) (bs rest : List ℕ) → bs ≡ w % 256 ∷ w / 256 % 256 ∷ rest → get_or bs (i % 2) 0 ≡ part w i
+part_of w i bs rest e = ap (λ (xs : List ℕ). get_or xs (i % 2) 0) e ∙ by (i % 2) (omega arith)
+  where
+    by : (k : ℕ) → k < 2 → get_or (w % 256 ∷ w / 256 % 256 ∷ rest) k 0 ≡ cond (eqb k 0) (w % 256) (w / 256 % 256)
+    by zero h = refl
+    by (suc zero) h = refl
+    by (suc (suc k)) h = absurd (omega arith)
 
 part_on : (w j : ℕ) → part w j ≡ part w (suc (suc j))
 part_on w j = let e : j % 2 ≡ suc (suc j) % 2 = omega arith in ap (λ (k : ℕ). cond (eqb k 0) (w % 256) (w / 256 % 256)) e
@@ -122,7 +145,7 @@ words_more t ls r s (suc n) new even start low high =
 abbrev pub partial : (tab size : ℕ) → List FieldLoc → ℕ → List ℕ
 partial t size ls k = le 2 (vtable_length ls) ++ (le 2 size ++ slot_words t (take k ls) 4 ((vtable_length ls - 4) / 2))
 
-pub length_partial : (t size : ℕ) (ls : List FieldLoc) (k : ℕ) → Slots ls → length (partial t size ls k) ≡ vtable_length ls
+length_partial : (t size : ℕ) (ls : List FieldLoc) (k : ℕ) → Slots ls → length (partial t size ls k) ≡ vtable_length ls
 length_partial t size ls k slots =
     let e = length_words t (take k ls) 4 ((vtable_length ls - 4) / 2) in
     let b = len_bounds ls slots in
@@ -135,7 +158,7 @@ words_none t s (suc n) m e =
     ap zeros more ∙ ap (λ (ws : List ℕ). 0 ∷ 0 ∷ ws) (words_none t (s + 2) n (2 * n) refl)
 
 -- the two words before the slots, over zero bytes
-pub header : (t size : ℕ) (ls : List FieldLoc) (len : ℕ) (us a b c : List ℕ) → Slots ls → len ≡ vtable_length ls → a ≡ zeros len ++ us → b ≡ written a 0 (le 2 len) → c ≡ written b 2 (le 2 size)
+header : (t size : ℕ) (ls : List FieldLoc) (len : ℕ) (us a b c : List ℕ) → Slots ls → len ≡ vtable_length ls → a ≡ zeros len ++ us → b ≡ written a 0 (le 2 len) → c ≡ written b 2 (le 2 size)
     → c ≡ partial t size ls 0 ++ us
 header t size ls len us a b c slots el ea eb ec =
     let m = len - 4 in
@@ -167,7 +190,7 @@ module _ (t size : ℕ) (ls : List FieldLoc) (k : ℕ) (once : Once ls) (slots :
       ∙ ap (λ (vs : List ℕ). le 2 L ++ vs) (sym (written_past (size % 256) (size / 256 % 256) ws (le 2 (t - r.off)) (r.id - 4) (r.id - 2) (omega arith)))
       ∙ sym (written_past (L % 256) (L / 256 % 256) (le 2 size ++ ws) (le 2 (t - r.off)) (r.id - 2) r.id (omega arith))
 
-  pub record_done : (d : ℕ) (ys zs us : List ℕ) → d ≡ t - r.off → ys ≡ partial t size ls k ++ us → zs ≡ written ys r.id (le 2 d) → zs ≡ partial t size ls (k + 1) ++ us
+  record_done : (d : ℕ) (ys zs us : List ℕ) → d ≡ t - r.off → ys ≡ partial t size ls k ++ us → zs ≡ written ys r.id (le 2 d) → zs ≡ partial t size ls (k + 1) ++ us
   record_done d ys zs us ed ey ez =
       let long = length_partial t size ls k slots in
       let below = slot_below ls k h in
@@ -176,6 +199,33 @@ module _ (t size : ℕ) (ls : List FieldLoc) (k : ℕ) (once : Once ls) (slots :
       ∙ written_append (partial t size ls k) us r.id (le 2 (t - r.off)) (omega arith)
       ∙ ap (λ (vs : List ℕ). vs ++ us) (sym partial_more)
 
-pub partial_all : (t size : ℕ) (ls : List FieldLoc) (k : ℕ) → length ls ≤ k → partial t size ls k ≡ vtable_bytes t size ls
+partial_all : (t size : ℕ) (ls : List FieldLoc) (k : ℕ) → length ls ≤ k → partial t size ls k ≡ vtable_bytes t size ls
 partial_all t size ls k h =
     ap (λ (rs : List FieldLoc). le 2 (vtable_length ls) ++ (le 2 size ++ slot_words t rs 4 ((vtable_length ls - 4) / 2))) (take_all k ls h)
+
+-- ---- the steps of writing the vtable of w, from its records as a slice lends them
+
+module _ (w : VTableWriter) (ls : List FieldLoc) (lent : ls ≡ fields w.field_locs.now) where
+  slots : Slots ls
+  slots = subst Slots (sym lent) w.field_locs.now.slots
+
+  abbrev so_far : ℕ → List ℕ
+  so_far k = partial w.table w.size ls k
+
+  pub started : (us a b c : List ℕ) → a ≡ zeros w.len ++ us → b ≡ written a 0 (le 2 w.len) → c ≡ written b 2 (le 2 w.size)
+      → (c ≡ so_far 0 ++ drop (vtable_length ls) c) × (drop (vtable_length ls) c ≡ us)
+  started us a b c ea eb ec =
+      let head = header w.table w.size ls w.len us a b c slots (w.long ∙ ap vtable_length (sym lent)) ea eb ec in
+      let tail = ap (drop (vtable_length ls)) head ∙ drop_at (so_far 0) us (vtable_length ls) (length_partial w.table w.size ls 0 slots) in
+      (head ∙ ap (λ (vs : List ℕ). so_far 0 ++ vs) (sym tail), tail)
+
+  pub slot_fits : (k : ℕ) (ys us : List ℕ) → k < length ls → ys ≡ so_far k ++ us → (get_or ls k none).id + 2 ≤ length ys
+  slot_fits k ys us h e =
+      omega (arith, length_partial w.table w.size ls k slots, slot_below ls k h, ap length e ∙ length-append (so_far k) us)
+
+  pub one_more : (k d : ℕ) (ys zs us : List ℕ) → k < length ls → d ≡ w.table - (get_or ls k none).off → ys ≡ so_far k ++ us → zs ≡ written ys (get_or ls k none).id (le 2 d)
+      → zs ≡ so_far (k + 1) ++ us
+  one_more k d ys zs us h = record_done w.table w.size ls k (subst Once (sym lent) w.field_locs.now.once) slots h d ys zs us
+
+  pub written_all : (k : ℕ) → length ls ≤ k → so_far k ≡ vtable_of w
+  written_all k h = partial_all w.table w.size ls k h ∙ ap (vtable_bytes w.table w.size) lent

@@ -1,6 +1,7 @@
 -- Records of a table's slots, as a list.
-use Rattle.std.specs.Prelude.{◌≡◌, ℕ, suc, ◌<◌, true, cond, List, [], ◌∷◌, length, ◌==◌, slice_index_or}
-use Rattle.model.specs.Tables.{slot_stands}
+use Rattle.std.specs.Prelude.{◌≡◌, ℕ, ◌<◌, true, List, length, ◌==◌, slice_index_or}
+use Rattle.std.specs.List.{position_or_len}
+use Rattle.wire.specs.Slots.{slot_stands}
 use Rattle.model.specs.declared.field_loc.FieldLoc.{FieldLoc}
 
 -- the record that stands for none
@@ -9,8 +10,7 @@ none = record { off = 0; id = 0 }
 
 -- the place of the slot's first record, or the number of records
 abbrev pub place_of : List FieldLoc → ℕ → ℕ
-place_of [] s = 0
-place_of (r ∷ rs) s = cond (s == r.id) 0 (suc (place_of rs s))
+place_of rs s = position_or_len (λ r. s == r.id) rs
 
 -- no slot has two records: each record is the first of its slot
 abbrev pub Once : List FieldLoc → Type 0

@@ -4,5 +4,4 @@
 pub mod end_table;
 pub mod field_locs;
 pub mod offsets;
-pub mod slot;
 mod vtable_writer;

@@ -1,2 +1,3 @@
-pub mod Parts
 pub mod Created
+pub mod Padded
+pub mod Parts

@@ -1,9 +1,8 @@
 -- What a call is told, by its tests.
-use Rattle.std.proofs.Common.{◌≡◌, ℕ, ◌≤◌, Bool, true, false, ltb, leb, List, [], ◌∷◌, ◌++◌, Ok, Err, refl, arith}
+use Rattle.std.proofs.Common.{◌≡◌, ℕ, ◌≤◌, Bool, true, false, leb, List, [], ◌∷◌, ◌++◌, Ok, Err, refl, arith}
 use Rattle.std.proofs.lemmas.Bool.Decides.{nat_tests}
 use Rattle.std.proofs.lemmas.Bool.{cond-true, cond-false}
 use Rattle.wire.specs.declared.refusal.Refusal.{Refusal}
-use Rattle.wire.specs.declared.refusal.Refusal.TheVariants.{TooLong, Store}
 use Rattle.wire.specs.Answers.{Why, Test, Where, above, decided, number, space_tests, too_much}
 
 module _ {A : Type 0} (x : A) where
@@ -14,22 +13,6 @@ module _ {A : Type 0} (x : A) where
   -- a test that does not fail is passed over
   pub decided_pass : (t : Test) (ts : List Test) → t.fails ≡ false → decided (t ∷ ts) x ≡ decided ts x
   decided_pass t ts e = cond-false t.fails _ _ e
-
-  pub told_long : (n limit : ℕ) → ltb 2147483647 n ≡ true → decided (space_tests n limit) x ≡ Err TooLong
-  told_long n limit e = grind arith
-
-  -- the used space after a call is one number, and what it asks of the store may be another
-  pub asks_store : (n m limit : ℕ) → n ≤ 2147483647 → leb m limit ≡ false → decided (too_much n ∷ above m limit ∷ []) x ≡ Err (Store tt)
-  asks_store n m limit low e = grind (arith, nat_tests)
-
-  pub asks_done : (n m limit : ℕ) → n ≤ 2147483647 → leb m limit ≡ true → decided (too_much n ∷ above m limit ∷ []) x ≡ Ok x
-  asks_done n m limit low e = grind (arith, nat_tests)
-
-  pub told_store : (n limit : ℕ) → n ≤ 2147483647 → leb n limit ≡ false → decided (space_tests n limit) x ≡ Err (Store tt)
-  told_store n limit = asks_store n n limit
-
-  pub told_done : (n limit : ℕ) → n ≤ 2147483647 → leb n limit ≡ true → decided (space_tests n limit) x ≡ Ok x
-  told_done n limit = asks_done n n limit
 
 -- an accepted call answers what it is to answer
 pub decided_ok : {A : Type 0} (x y : A) (ts : List Test) → Ok y ≡ decided ts x → y ≡ x

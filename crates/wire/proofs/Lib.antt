@@ -3,7 +3,6 @@ pub mod LittleEndian
 pub mod Laws
 pub mod Plain
 pub mod Rows
-pub mod Conds
 pub mod Decided
 pub mod Walk
 pub mod WellFormed

@@ -1,11 +1,9 @@
 -- Laws of `last`, `front`, `raised` and `written`. Stores and the builder are proved by these.
-use Rattle.std.proofs.Common.{◌≡◌, ℕ, ◌+◌, ◌-◌, ◌<◌, ◌≤◌, min, max, Bool, true, false, cond, List, [], ◌++◌, length, get_or, take, drop, Some, None, sym, ap, ◌∙◌, inl, inr, append_assoc, arith, length-append, length-drop, take-append-drop, length-take}
+use Rattle.std.proofs.Common.{◌≡◌, ℕ, ◌+◌, ◌-◌, ◌<◌, ◌≤◌, min, max, Bool, true, false, cond, List, ◌++◌, length, take, drop, sym, ap, ◌∙◌, inl, inr, append_assoc, arith, length-append, length-drop, take-append-drop, length-take}
 use lib.ListN.{length-replicate, replicate-append-replicate}
 use borrow.Rule.Slice.PartMut.{put_mid}
-use Rattle.std.specs.List.{slice_get}
-use Rattle.std.proofs.lemmas.List.{drop-drop, drop-take, drop_at, drop_all, take_at, drop-append-le, drop-replicate, take-append-le, take_all, take-take, get_or-drop, get_or-take}
+use Rattle.std.proofs.lemmas.List.{drop-drop, drop-take, drop_at, drop_all, take_at, drop-append-le, drop-replicate, take-append-le, take_all, take-take}
 use Rattle.std.proofs.lemmas.Bool.{false≢true, cases_lt}
-use Rattle.std.proofs.lemmas.Option.{slice_get-get_or, slice_get_past}
 use Rattle.wire.specs.Bytes.{zeros, last, front, raised, written, unspent}
 
 pub length_last : (n : ℕ) (xs : List ℕ) → length (last n xs) ≡ min n (length xs)
@@ -27,33 +25,8 @@ last_at xs ys n e = drop_at xs ys (length (xs ++ ys) - n) (simp length-append (o
 pub front_at : (xs ys : List ℕ) (n : ℕ) → length ys ≡ n → front n (xs ++ ys) ≡ xs
 front_at xs ys n e = take_at xs ys (length (xs ++ ys) - n) (simp length-append (omega arith))
 
--- bytes set in front change none of the last
-pub last_append : (n : ℕ) (xs ys : List ℕ) → n ≤ length ys → last n (xs ++ ys) ≡ last n ys
-last_append n xs ys h =
-    let e : xs ++ ys ≡ (xs ++ front n ys) ++ last n ys = simp (append_assoc, front_last) in
-    ap (last n) e ∙ last_at (xs ++ front n ys) (last n ys) n (length_last_le n ys h)
-
 pub last_all : (n : ℕ) (xs : List ℕ) → length xs ≤ n → last n xs ≡ xs
 last_all n xs h = let e : length xs - n ≡ 0 = omega arith in ap (λ (k : ℕ). drop k xs) e
-
-pub last_none : (xs : List ℕ) → last 0 xs ≡ []
-last_none xs = drop_all (length xs - 0) xs (omega arith)
-
--- `&s[from..]` as the checker reads it
-pub part_last : (n : ℕ) (xs : List ℕ) (from count : ℕ) → from ≡ length xs - n → length xs ≤ from + count → take count (drop from xs) ≡ last n xs
-part_last n xs from count e h =
-    take_all count (drop from xs) (simp length-drop (omega arith)) ∙ ap (λ (k : ℕ). drop k xs) e
-
--- the place k of xs is the place i of its last n bytes
-pub nth_last : (n : ℕ) (xs : List ℕ) (i k : ℕ) → k ≡ length xs - n + i → i < length (last n xs) → slice_get (last n xs) i ≡ Some (get_or xs k 0)
-nth_last n xs i k e l =
-    slice_get-get_or (last n xs) i 0 l ∙ ap (λ (x : ℕ). Some x) (get_or-drop (length xs - n) xs i 0 ∙ ap (λ (j : ℕ). get_or xs j 0) (sym e))
-
-pub nth_below : (n : ℕ) (xs : List ℕ) (i k : ℕ) → k ≡ length xs - n + i → i < length (last n xs) → slice_get xs k ≡ slice_get (last n xs) i
-nth_below n xs i k e l = slice_get-get_or xs k 0 (omega (arith, length_last n xs)) ∙ sym (nth_last n xs i k e l)
-
-pub nth_last_past : (n : ℕ) (xs : List ℕ) (i : ℕ) → length (last n xs) ≤ i → slice_get (last n xs) i ≡ None
-nth_last_past n xs i h = slice_get_past (last n xs) i h
 
 -- growth
 
@@ -79,35 +52,6 @@ raised_is k xs ys e =
 pub longer : (k : ℕ) (xs ys : List ℕ) → ys ≡ zeros k ++ xs → 0 < k → length xs < length ys
 longer k xs ys e h = omega (arith, simp (length-append, length-replicate) at (ap length e))
 
-pub last_raised : (n m : ℕ) (xs : List ℕ) → n ≤ length xs → last n (raised m xs) ≡ last n xs
-last_raised n m xs h = last_append n (zeros (m - length xs)) xs h
-
-pub front_append : (n : ℕ) (xs ys : List ℕ) → n ≤ length ys → front n (xs ++ ys) ≡ xs ++ front n ys
-front_append n xs ys h =
-    let e : xs ++ ys ≡ (xs ++ front n ys) ++ last n ys = simp (append_assoc, front_last) in
-    ap (front n) e ∙ front_at (xs ++ front n ys) (last n ys) n (length_last_le n ys h)
-
--- a number above the length cuts where the length does
-pub last_short : (n u : ℕ) (xs : List ℕ) → u ≡ length (last n xs) → last u xs ≡ last n xs
-last_short n u xs e =
-    let same : length xs - u ≡ length xs - n = omega (arith, length_last n xs) in ap (λ (k : ℕ). drop k xs) same
-
-pub front_short : (n u : ℕ) (xs : List ℕ) → u ≡ length (last n xs) → front u xs ≡ front n xs
-front_short n u xs e =
-    let same : length xs - u ≡ length xs - n = omega (arith, length_last n xs) in ap (λ (k : ℕ). take k xs) same
-
--- growth leaves the last bytes, and sets zero bytes before the rest
-pub last_grown : (n u : ℕ) (xs ys : List ℕ) → u ≡ length (last n xs) → ys ≡ raised (length ys) xs → last u ys ≡ last n xs
-last_grown n u xs ys e grown =
-    ap (last u) grown ∙ last_raised u (length ys) xs (omega (arith, length_last n xs)) ∙ last_short n u xs e
-
-pub front_grown : (n u : ℕ) (xs ys : List ℕ) → u ≡ length (last n xs) → ys ≡ raised (length ys) xs → front u ys ≡ raised (length (front u ys)) (front n xs)
-front_grown n u xs ys e grown =
-    raised_is (length ys - length xs) (front n xs) (front u ys)
-    (ap (front u) grown
-    ∙ front_append u (zeros (length ys - length xs)) xs (omega (arith, length_last n xs))
-    ∙ ap (λ (zs : List ℕ). zeros (length ys - length xs) ++ zs) (front_short n u xs e))
-
 -- growth of a store below, seen through its last n bytes
 pub grown_below : (n : ℕ) (xs ys : List ℕ) → length xs ≤ n → length xs ≤ length ys → ys ≡ raised (length ys) xs → last n ys ≡ raised (length (last n ys)) (last n xs)
 grown_below n xs ys h k grown =
@@ -132,9 +76,6 @@ length_written xs start ys h = simp (length-append, length-take, length-drop) (o
 pub put_mid_written : (xs : List ℕ) (start count : ℕ) (ys : List ℕ) → count ≡ length ys → put_mid start count xs ys ≡ written xs start ys
 put_mid_written xs start count ys e =
     ap (λ (zs : List ℕ). take start xs ++ (ys ++ zs)) (drop-drop count start xs ∙ ap (λ (k : ℕ). drop (start + k) xs) e)
-
-pub length_put_mid : (xs : List ℕ) (start count : ℕ) (ys : List ℕ) → length ys ≡ count → start + count ≤ length xs → length (put_mid start count xs ys) ≡ length xs
-length_put_mid xs start count ys e h = simp (length-append, length-take, length-drop) (omega arith)
 
 -- a write inside the last n bytes
 pub last_written : (n : ℕ) (xs : List ℕ) (start : ℕ) (ys : List ℕ) (from : ℕ) → from ≡ length xs - n + start → start + length ys ≤ length (last n xs)
@@ -165,35 +106,10 @@ last_put_mid n xs start ys from count zs same long is k =
     ∙ ap (last n) (put_mid_written xs from count ys long)
     ∙ last_written n xs start ys from is k
 
--- zero bytes written just before the last n bytes
-pub last_zeroed : (n m : ℕ) (xs : List ℕ) (from count j : ℕ) (zs : List ℕ) → zs ≡ zeros j → j ≡ count
-    → from + m ≡ length xs → count + n ≡ m → m ≤ length xs → last m (put_mid from count xs zs) ≡ zeros count ++ last n xs
-last_zeroed n m xs from count j zs same long e k h =
-    let zeroed : zs ≡ zeros count = same ∙ ap zeros long in
-    let size : length (take from xs) ≡ from = simp length-take (omega arith) in
-    let tail : drop count (drop from xs) ≡ last n xs =
-    drop-drop count from xs ∙ (let far : from + count ≡ length xs - n = omega arith in ap (λ (i : ℕ). drop i xs) far) in
-    let parts : put_mid from count xs zs ≡ take from xs ++ (zeros count ++ last n xs) =
-    ap (λ (us : List ℕ). take from xs ++ (us ++ drop count (drop from xs))) zeroed
-    ∙ ap (λ (us : List ℕ). take from xs ++ (zeros count ++ us)) tail in
-    ap (last m) parts
-    ∙ last_at (take from xs) (zeros count ++ last n xs) m (simp (length-append, length-replicate, length-drop) (omega arith))
-
 -- a write that was taken
 pub put_done : (r : Bool) (xs ys zs : List ℕ) → r ≡ true → zs ≡ cond r xs ys → zs ≡ xs
 put_done true xs ys zs t e = e
 put_done false xs ys zs t e = absurd (false≢true t)
-
--- bytes written just before the last u
-pub split_written : (u start : ℕ) (ys bs : List ℕ) → start + length bs + u ≡ length ys → written ys start bs ≡ take start ys ++ (bs ++ last u ys)
-split_written u start ys bs e =
-    let at : start + length bs ≡ length ys - u = omega arith in
-    ap (λ (k : ℕ). take start ys ++ (bs ++ drop k ys)) at
-
-pub last_prepended : (u start : ℕ) (ys after bs : List ℕ) → start + length bs + u ≡ length ys → after ≡ written ys start bs → last (u + length bs) after ≡ bs ++ last u ys
-last_prepended u start ys after bs e is =
-    ap (last (u + length bs)) (is ∙ split_written u start ys bs e)
-    ∙ last_at (take start ys) (bs ++ last u ys) (u + length bs) (simp (length-append, length-drop) (omega arith))
 
 -- growth alone
 pub unspent_none : (xs old : List ℕ) → xs ≡ raised (length xs) old → xs ≡ unspent (length xs) 0 old
@@ -202,17 +118,6 @@ unspent_none xs old grown =
     sym (take_all (length xs) xs (omega arith)) ∙ ap (take (length xs)) (grown ∙ ap (λ (k : ℕ). raised k old) same)
 
 -- a store at the front of a slice
-
-pub take_short : (n u : ℕ) (xs : List ℕ) → u ≡ length (take n xs) → take u xs ≡ take n xs
-take_short n u xs e =
-    elim (cases_lt n (length xs)) as (λ _. take u xs ≡ take n xs) [
-      | inl h ↦ (let same : u ≡ n = omega (arith, length-take n xs) in ap (λ (k : ℕ). take k xs) same)
-      | inr h ↦ (let all : u ≡ length xs = omega (arith, length-take n xs) in take_all u xs (omega arith) ∙ sym (take_all n xs h))
-    ]
-
-pub nth_take : (n : ℕ) (xs : List ℕ) (i : ℕ) → i < length (take n xs) → slice_get (take n xs) i ≡ Some (get_or xs i 0)
-nth_take n xs i l =
-    slice_get-get_or (take n xs) i 0 l ∙ ap (λ (x : ℕ). Some x) (get_or-take n xs i 0 (omega (arith, length-take n xs)))
 
 pub written_append : (xs ys : List ℕ) (start : ℕ) (zs : List ℕ) → start + length zs ≤ length xs → written (xs ++ ys) start zs ≡ written xs start zs ++ ys
 written_append xs ys start zs h =
@@ -260,27 +165,6 @@ moved_up len next xs turned zs m a b j h k ea eb em et ez ej =
     ∙ ap (λ (i : ℕ). zeros (next - len) ++ (take len xs ++ drop i xs)) ea
     ∙ sym (append_assoc (zeros (next - len)) (take len xs) (drop next xs))
 
--- growth at the front of a slice
-pub take_moved : (n len next : ℕ) (xs after : List ℕ) → len ≡ length (take n xs) → len ≤ next → next ≤ length xs
-    → after ≡ (zeros (next - len) ++ take len xs) ++ drop next xs → take next after ≡ zeros (next - len) ++ take n xs
-take_moved n len next xs after e h k moved =
-    ap (take next) moved
-    ∙ take_at (zeros (next - len) ++ take len xs) (drop next xs) next (simp (length-append, length-replicate, length-take) (omega (arith, length-take n xs)))
-    ∙ ap (λ (us : List ℕ). zeros (next - len) ++ us) (take_short n len xs e)
-
-pub length_moved : (len next : ℕ) (xs after : List ℕ) → len ≤ next → next ≤ length xs
-    → after ≡ (zeros (next - len) ++ take len xs) ++ drop next xs → length after ≡ length xs
-length_moved len next xs after h k moved =
-    ap length moved ∙ simp (length-append, length-replicate, length-take, length-drop) (omega arith)
-
--- the byte that a store gives at a place
-pub nth_some : (xs : List ℕ) (i b : ℕ) → i < length xs → slice_get xs i ≡ Some b → b ≡ get_or xs i 0
-nth_some xs i b l e = let f = slice_get-get_or xs i 0 l in cc
-
--- the place k of xs is the place i of its last n bytes
-pub get_or_last : (n : ℕ) (xs : List ℕ) (i k : ℕ) → k ≡ length xs - n + i → get_or xs k 0 ≡ get_or (last n xs) i 0
-get_or_last n xs i k e = ap (λ (j : ℕ). get_or xs j 0) e ∙ sym (get_or-drop (length xs - n) xs i 0)
-
 -- the lists of stores do not pass their limits
 
 pub take_within : (n : ℕ) (xs : List ℕ) → length (take n xs) ≤ length xs
@@ -298,16 +182,6 @@ front_front m n xs =
     let long = length_front n xs in
     let cut : length (front n xs) - m ≡ length xs - (m + n) = omega arith in
     ap (λ (k : ℕ). take k (front n xs)) cut ∙ take-take (length xs - (m + n)) (length xs - n) xs (omega arith)
-
--- what stands before bytes that are written just before the last u
-pub front_placed : (u start : ℕ) (ys after bs : List ℕ) → start + length bs + u ≡ length ys → after ≡ written ys start bs
-    → front (u + length bs) after ≡ front (length bs) (front u ys)
-front_placed u start ys after bs e is =
-    let at : start ≡ length ys - (length bs + u) = omega arith in
-    ap (front (u + length bs)) (is ∙ split_written u start ys bs e)
-    ∙ front_at (take start ys) (bs ++ last u ys) (u + length bs) (simp (length-append, length-drop) (omega arith))
-    ∙ ap (λ (k : ℕ). take k ys) at
-    ∙ sym (front_front (length bs) u ys)
 
 -- growth of which the last k bytes are then taken
 pub front_unspent : (k : ℕ) (xs old after : List ℕ) → k ≤ length xs → xs ≡ raised (length xs) old → after ≡ front k xs
@@ -337,11 +211,3 @@ part_zeros from count size n h e =
     ∙ take_at (zeros count) (zeros more) count (length-replicate count 0)
     ∙ ap zeros e
 
--- a write to the last n bytes leaves what stands before them
-pub front_written : (n : ℕ) (xs : List ℕ) (from : ℕ) (ys : List ℕ) → length xs - n ≤ from → from + length ys ≤ length xs → front n (written xs from ys) ≡ front n xs
-front_written n xs from ys h k =
-    let same : length (written xs from ys) ≡ length xs = length_written xs from ys k in
-    let fits : length xs - n ≤ length (take from xs) = simp length-take (omega arith) in
-    ap (λ (m : ℕ). take (m - n) (written xs from ys)) same
-    ∙ take-append-le (length xs - n) (take from xs) (ys ++ drop (from + length ys) xs) fits
-    ∙ take-take (length xs - n) from xs h

@@ -1,5 +1,5 @@
 -- What the law of a kind gives of a row of its values.
-use Rattle.std.proofs.Common.{◌≡◌, ℕ, zero, suc, ◌+◌, ◌*◌, ◌^◌, ◌<◌, ◌≤◌, true, ◌&&◌, T, ltb, List, [], ◌∷◌, ◌++◌, map, length, get_or, drop, Some, None, Option, sym, refl, ap, ◌∙◌, subst, mul-le-mul_right, suc-mul, mul-le-mul_left, arith, length-drop}
+use Rattle.std.proofs.Common.{◌≡◌, ℕ, zero, suc, ◌+◌, ◌*◌, ◌^◌, ◌<◌, ◌≤◌, true, ltb, List, [], ◌∷◌, ◌++◌, map, length, get_or, drop, Some, None, Option, sym, refl, ap, ◌∙◌, suc-mul, mul-le-mul_left, arith}
 use Rattle.std.specs.List.{AllByRecursion}
 use Rattle.std.proofs.lemmas.List.{append_assoc, drop_more, length-append, length-map, length-replicate}
 use Rattle.std.proofs.lemmas.Bool.{and_parts}
@@ -56,22 +56,6 @@ module _ {V S : Type 0} (m : Meaning V S) (law : Law m) where
   module _ (xs : List V) (i j : ℕ) (x : V) (e : j ≡ i + 1) (h : i < length xs) (is : x ≡ get_or xs i x) where
     next : drop i xs ≡ x ∷ drop j xs
     next = drop_more xs i x h ∙ ap (λ (y : V). y ∷ drop (i + 1) xs) (sym is) ∙ ap (λ (k : ℕ). x ∷ drop k xs) (sym e)
-
-    pub row_more : (used : ℕ) → row (map (pushed m law) (drop i xs)) used
-        ≡ m.bytes x (length (row (map (pushed m law) (drop j xs)) used) + used) ++ row (map (pushed m law) (drop j xs)) used
-    row_more used = ap (λ (l : List V). row (map (pushed m law) l) used) next
-
-    pub fit_more : T (m.fits x) → Fit m law (drop j xs) → Fit m law (drop i xs)
-    fit_more one rest = subst (Fit m law) (sym next) (one, rest)
-
-    pub stand_rest : (used : ℕ) → all_stand (map (pushed m law) (drop i xs)) used ≡ (stands (m.offset x) used && all_stand (map (pushed m law) (drop j xs)) used)
-    stand_rest used = ap (λ (l : List V). all_stand (map (pushed m law) l) used) next
-
-    pub room_more : length (drop j xs) * m.size + m.size ≤ length xs * m.size
-    room_more =
-        let few : suc (length (drop j xs)) ≤ length xs = omega (arith, length-drop j xs) in
-        let k = mul-le-mul_right m.size few in
-        omega (arith, suc-mul (length (drop j xs)) m.size)
 
   reads_at : (xs : List V) (front used : List ℕ) (i : ℕ) (d : V) → Fit m law xs → all_stand (map (pushed m law) xs) (length used) ≡ true
       → length xs * m.size + length used < 2 ^ 31 → i < length xs

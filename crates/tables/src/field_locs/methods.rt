@@ -1,43 +1,37 @@
-ghost use Rattle.std.specs.Prelude.{◌≡◌, not, ◌&&◌, [], length, is_some, if◌then◌else◌};
-ghost use Rattle.model.specs.Tables.{distance, lookup, no_room, record_slot, slot_stands};
+ghost use Rattle.std.specs.Prelude.{◌≡◌, not, ◌&&◌, [], length, is_some, if◌then◌else◌, ◌==◌};
+ghost use Rattle.model.specs.Tables.{distance, lookup, no_room, record_slot};
 ghost use Rattle.tables.specs.Fields.{fields};
-ghost use Rattle.tables.specs.Records.{place_of};
+ghost use Rattle.std.specs.List.{position};
+ghost use Rattle.wire.specs.Slots.{slot_stands};
 
 use super::{FieldLocs, SLOTS};
-use crate::slot::valid_slot;
+use arrayvec::ArrayVec;
 use model::field_loc::FieldLoc;
+use wire::slot::valid_slot;
 
 impl FieldLocs {
     pub fn new() -> FieldLocs
         ensures { fields result ≡ [] }
     {
         FieldLocs {
-            items: [FieldLoc { off: 0, id: 0 }; SLOTS],
-            count: 0,
+            items: ArrayVec::new(),
         }
     }
 
-    // The place of the slot's record, or the number of records.
-    fn place(&self, slot: u16) -> usize
-        ensures { result ≡ place_of (fields self.now) slot }
+    // The place of the slot's record.
+    fn place(&self, slot: u16) -> Option<usize>
+        ensures { result ≡ position (λ r. slot == r.id) (fields self.now) }
     {
-        for (i, loc) in self.items[..self.count].iter().enumerate() {
-            if loc.id == slot {
-                return i;
-            }
-        }
-        self.count
+        self.items.iter().position(|loc| loc.id == slot)
     }
 
     // How far the slot's value lies behind the table at the offset, or 0 where none is recorded.
     pub(crate) fn distance(&self, table: usize, slot: u16) -> usize
         ensures { result ≡ distance table (lookup slot (fields self.now)) }
     {
-        let i = self.place(slot);
-        if i < self.count {
-            table.saturating_sub(self.items[i].off as usize)
-        } else {
-            0
+        match self.place(slot) {
+            Some(i) => table.saturating_sub(self.items[i].off as usize),
+            None => 0,
         }
     }
 
@@ -45,7 +39,7 @@ impl FieldLocs {
     pub fn room_for(&self, slot: u16) -> bool
         ensures { result ≡ not (not (is_some (lookup slot (fields self.now))) && no_room (length (fields self.now))) }
     {
-        self.place(slot) != SLOTS
+        self.items.len() < SLOTS || self.place(slot).is_some()
     }
 
     // Records where the slot's value lies, over an earlier record of the slot; says no where the slot does not stand or there is no room.
@@ -56,24 +50,20 @@ impl FieldLocs {
         if !valid_slot(slot) {
             return false;
         }
-        let i = self.place(slot);
-        if i < self.count {
-            let loc = &mut self.items[i];
-            loc.off = off;
-            return true;
+        match self.place(slot) {
+            Some(i) => {
+                let loc = &mut self.items[i];
+                loc.off = off;
+                true
+            }
+            None => self.items.try_push(FieldLoc { off, id: slot }).is_ok(),
         }
-        if i == SLOTS {
-            return false;
-        }
-        self.items[i] = FieldLoc { off, id: slot };
-        self.count = i + 1;
-        true
     }
 
     // Forgets all records.
     pub fn clear(&mut self)
         ensures { fields self.new ≡ [] }
     {
-        self.count = 0;
+        self.items.clear();
     }
 }

@@ -2,15 +2,15 @@ ghost use Rattle.std.specs.Prelude.{◌≡◌, not, [], ◌∷◌, ◌++◌, len
 ghost use Rattle.model.specs.Tables.{no_room};
 ghost use Rattle.tables.specs.Fields.{offsets};
 
-use super::{ENTRIES, Offsets};
+use super::Offsets;
+use arrayvec::ArrayVec;
 
 impl Offsets {
     pub fn new() -> Offsets
         ensures { offsets result ≡ [] }
     {
         Offsets {
-            items: [0; ENTRIES],
-            count: 0,
+            items: ArrayVec::new(),
         }
     }
 
@@ -19,18 +19,13 @@ impl Offsets {
         ensures value { result ≡ not (no_room (length (offsets self.old))) }
         ensures offsets { offsets self.new ≡ (if result then offsets self.old ++ off ∷ [] else offsets self.old) }
     {
-        if self.count == ENTRIES {
-            return false;
-        }
-        self.items[self.count] = off;
-        self.count += 1;
-        true
+        self.items.try_push(off).is_ok()
     }
 
     // Forgets all offsets.
     pub fn clear(&mut self)
         ensures { offsets self.new ≡ [] }
     {
-        self.count = 0;
+        self.items.clear();
     }
 }

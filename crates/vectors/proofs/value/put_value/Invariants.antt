@@ -1,16 +1,10 @@
-use Rattle.std.proofs.Common.{◌≡◌, ◌<◌, ◌≤◌, T, length, drop}
-use Rattle.space.specs.Taken.{taken}
-use Rattle.space.proofs.Spaces.{Laid}
+use Rattle.std.proofs.Common.{◌*◌, ◌<◌, true, T, drop}
+use Rattle.space.specs.Taken.{Placed}
 use Rattle.vectors.proofs.value.put_value.Given as goal
 
--- the bytes from `left` on are placed
-abbrev pub invariant-loop-left : goal.invariant-loop-left
-invariant-loop-left g l =
+-- the parts from i on are placed
+abbrev pub invariant-loop-i : goal.invariant-loop-i
+invariant-loop-i g l =
     let m = g.T.Kind.meaning in
-    let list = g.S.Allocator.list in
-    (l.left ≤ m.size)
-    × Laid list g.S.Allocator.limit l.initial.space l.space (drop l.left (m.bytes l.x l.used))
-    × (l.left < m.size → (l.space.used ≡ length (taken list l.space)) × T (m.fits l.x))
-
-abbrev pub decreases-loop-left : goal.decreases-loop-left
-decreases-loop-left g l = l.left
+    Placed l.initial.space l.space true (drop (l.i * 8) (m.bytes l.x l.used))
+    × (l.i * 8 < m.size → T (m.fits l.x))

@@ -1,6 +1,5 @@
 use Rattle.std.proofs.Common.{ℕ, ◌*◌, ◌≤◌, List, [], map, length, get_or, Some, Ok, sym, refl, ap, ◌∙◌, subst}
 use Rattle.std.proofs.lemmas.List.{length-map}
-use Rattle.space.specs.Taken.{taken}
 use Rattle.wire.specs.Layouts.{element, vector_space}
 use Rattle.wire.specs.Pushed.{layout, pushed}
 use Rattle.wire.proofs.Rows.{reads_back}
@@ -11,7 +10,7 @@ pub returns : goal.returns
 returns g c d _ h =
     let m = g.T.Kind.meaning in
     let law = g.T.Kind.lawful in
-    let used = taken g.S.Allocator.list c.args.space.now in
+    let used = c.args.space.now.taken in
     let items = c.args.items.now in
     let made = c.in_ok-create_vector.ensures in
     let passed = vector_passed (layout m law) (map (pushed m law) items) (length used) _ _ _ made.answer in

@@ -1,101 +1,81 @@
-use Rattle.std.proofs.Common.{◌≡◌, ℕ, ◌*◌, ◌≤◌, true, false, ltb, List, map, length, Ok, sym, refl, ap, ◌∙◌, arith}
+use Rattle.std.proofs.Common.{◌≡◌, ℕ, ◌+◌, ◌*◌, true, List, ◌++◌, map, length, Ok, sym, refl, ap, ◌∙◌, subst, mul-le-mul_left, arith, rules}
+use Rattle.std.proofs.lemmas.Grind.{common_steps}
 use Rattle.std.proofs.lemmas.List.{length-map}
-use Rattle.std.proofs.lemmas.Bool.{false≢true}
-use Rattle.space.specs.Taken.{taken}
-use Rattle.wire.specs.Layouts.{all_stand, vector_offset}
-use Rattle.wire.specs.Pushed.{Pushed, layout, pushed, all_of}
-use Rattle.wire.proofs.Rows.{length_vector}
-use Rattle.space.proofs.Spaces.{prepended_allowed, prepended_used}
-use Rattle.vectors.proofs.Created.{too_long, found_padding, same_space, same_padding, vector_long, vector_store, vector_done, vector_written}
+use Rattle.space.specs.Taken.{Placed, Prepended}
+use Rattle.space.proofs.Spaces.{prepended_used}
+use Rattle.wire.specs.Answers.{vector_tests}
+use Rattle.wire.specs.Bytes.{zeros}
+use Rattle.wire.specs.Layouts.{row, vector_bytes, vector_offset, vector_padding}
+use Rattle.wire.specs.Pushed.{Pushed, Layout, layout, pushed, all_of}
+use Rattle.wire.specs.Words.{le}
+use Rattle.wire.proofs.Decided.{decided_other}
+use Rattle.wire.proofs.Rows.{length_code, length_vector}
+use Rattle.vectors.proofs.Created.{vector_passed}
+use Rattle.vectors.proofs.Padded.{prepended_headed}
+use Rattle.vectors.proofs.vector.create_vector.Given as given
 use Rattle.vectors.proofs.vector.create_vector.Goals as goal
 
-pub returns-in-None : goal.returns-in-None
-returns-in-None g c =
+module _ (g : given.Over) (c : goal.After-used g) where
+  abbrev used : ℕ
+  used = length c.args.space.now.taken
+
+  abbrev kind : Layout
+  kind = layout g.T.Kind.meaning g.T.Kind.lawful
+
+  abbrev code : List Pushed
+  code = map (pushed g.T.Kind.meaning g.T.Kind.lawful) c.args.items.now
+
+  -- the vector is written
+  written : Prepended c.args.space.now c.put_front.new.self true (vector_bytes kind code used)
+  written =
+      let m = g.T.Kind.meaning in
+      let s = c.args.space.now in
+      let last = c.put_front.new.self in
+      let items = c.args.items.now in
+      let pad : ℕ = vector_padding used (length items * m.size) m.alignment in
+      let is : c.in_ok-pad.pad ≡ pad = search rules in
+      let zeroed = subst (λ (k : ℕ). Placed c.room_for_vector.new.space c.put_zeros.new.self c.put_zeros.result (zeros k)) is c.put_zeros.ensures in
+      let headed = subst (λ (l : List ℕ). Placed c.put_row.new.space last c.put_front.result l) c.to_le_bytes.ensures c.put_front.ensures in
+      let done = prepended_headed s _ _ _ _ _ pad (length items * m.size) _ (row code) (length_code m g.T.Kind.lawful items) c.in_ok-pad.ensures.space zeroed c.put_row.ensures.placed
+      last _ (le 4 (length items)) refl headed in
+      subst (λ (n : ℕ). Prepended s last true (le 4 n ++ (row code (vector_padding used (n * m.size) m.alignment + used) ++ zeros (vector_padding used (n * m.size) m.alignment))))
+      (sym (length-map items (pushed m g.T.Kind.lawful))) done
+
+  offset : length c.put_front.new.self.taken ≡ vector_offset kind code used
+  offset =
+      let size = length_vector kind code used (all_of g.T.Kind.meaning g.T.Kind.lawful c.args.items.now) in
+      prepended_used c.args.space.now c.put_front.new.self _ _ size written
+
+pub returns-in_err-pad-clause-space : goal.returns-in_err-pad-clause-space
+returns-in_err-pad-clause-space g c =
     let m = g.T.Kind.meaning in
     let law = g.T.Kind.lawful in
-    let s = c.args.space.now in
-    let code : List Pushed = map (pushed m law) c.args.items.now in
-    let used = length (taken g.S.Allocator.list s) in
-    let stand : all_stand code used ≡ true = ap (all_stand code) (sym c.used-used.ensures) ∙ sym c.if-not-all_offsets_stand.ensures in
-    let space = same_space c.used-used.result used (length c.args.items.now) (length code) c.size.result m.size c.alignment.result m.alignment
-    c.used-used.ensures (sym (length-map c.args.items.now (pushed m law))) c.size.ensures c.alignment.ensures in
-    let long = too_long _ _ c.in-None.ensures in
-    record {
-      answer = sym (vector_long (layout m law) code used (g.S.Allocator.limit s.allocator) stand (ap (ltb 2147483647) (sym space) ∙ long));
-      space = refl;
-      fit = λ no. absurd (false≢true no);
-    }
+    let items = c.args.items.now in
+    let code = map (pushed m law) items in
+    let count = length-map items (pushed m law) in
+    let size = length_vector (layout m law) code (length c.args.space.now.taken) (all_of m law items) in
+    grind (arith, common_steps)
 
-pub prepend_vector-requires : goal.prepend_vector-requires
-prepend_vector-requires g c =
-    let found = found_padding _ _ _ c.in-Some.ensures in
-    let size = ap (λ (n : ℕ). length c.args.items.now * n) c.size.ensures in
-    omega (arith, found.0, found.1, c.used-used.ensures)
+pub overflow_cast-items : goal.overflow_cast-items
+overflow_cast-items g c =
+    let m = g.T.Kind.meaning in
+    let law = g.T.Kind.lawful in
+    let items = c.args.items.now in
+    let count = length-map items (pushed m law) in
+    let passed = vector_passed (layout m law) (map (pushed m law) items) (length c.args.space.now.taken) _ _ _ c.in_ok-pad.ensures.answer in
+    let low = rw count at passed.1 in
+    let k = mul-le-mul_left (length items) law.sized in
+    omega arith
 
 pub overflow_cast-result : goal.overflow_cast-result
 overflow_cast-result g c =
-    let m = g.T.Kind.meaning in
-    let law = g.T.Kind.lawful in
-    let list = g.S.Allocator.list in
-    let limit = g.S.Allocator.limit in
-    let s = c.args.space.now in
-    let items = c.args.items.now in
-    let after = c.prepend_vector.new.space in
-    let code : List Pushed = map (pushed m law) items in
-    let used = length (taken list s) in
-    let count = sym (length-map items (pushed m law)) in
-    let found = found_padding _ _ _ c.in-Some.ensures in
-    let pad = found.1 ∙ same_padding c.used-used.result used (length items) (length code) c.size.result m.size c.alignment.result m.alignment c.used-used.ensures count c.size.ensures c.alignment.ensures in
-    let space = same_space c.used-used.result used (length items) (length code) c.size.result m.size c.alignment.result m.alignment c.used-used.ensures count c.size.ensures c.alignment.ensures in
-    let low : vector_offset (layout m law) code used ≤ 2147483647 = omega (arith, found.0, space) in
-    let done = vector_written m law list limit s after items c.in-Some.pad true pad c.in-Ok.ensures.space in
-    omega (arith, low, prepended_used list limit s after _ _ (length_vector (layout m law) code used (all_of m law items)) done, c.used.ensures)
+    let passed = vector_passed (kind g c) (code g c) (used g c) _ _ _ c.in_ok-pad.ensures.answer in
+    let last = offset g c in
+    omega arith
 
-pub returns-in-Err : goal.returns-in-Err
-returns-in-Err g c =
-    let m = g.T.Kind.meaning in
-    let law = g.T.Kind.lawful in
-    let list = g.S.Allocator.list in
-    let limit = g.S.Allocator.limit in
-    let s = c.args.space.now in
-    let items = c.args.items.now in
-    let after = c.prepend_vector.new.space in
-    let code : List Pushed = map (pushed m law) items in
-    let used = length (taken list s) in
-    let count = sym (length-map items (pushed m law)) in
-    let found = found_padding _ _ _ c.in-Some.ensures in
-    let pad = found.1 ∙ same_padding c.used-used.result used (length items) (length code) c.size.result m.size c.alignment.result m.alignment c.used-used.ensures count c.size.ensures c.alignment.ensures in
-    let space = same_space c.used-used.result used (length items) (length code) c.size.result m.size c.alignment.result m.alignment c.used-used.ensures count c.size.ensures c.alignment.ensures in
-    let low : vector_offset (layout m law) code used ≤ 2147483647 = omega (arith, found.0, space) in
-    let stand : all_stand code used ≡ true = ap (all_stand code) (sym c.used-used.ensures) ∙ sym c.if-not-all_offsets_stand.ensures in
-    let done = vector_written m law list limit s after items c.in-Some.pad false pad c.in-Err.ensures.space in
-    record {
-      answer = sym (vector_store (layout m law) code used (limit s.allocator) stand low (prepended_allowed list limit s after false _ _ (length_vector (layout m law) code used (all_of m law items)) done));
-      space = done;
-      fit = λ no. absurd (false≢true no);
-    }
+pub returns-clause-answer : goal.returns-clause-answer
+returns-clause-answer g c =
+    ap Ok (c.used.ensures ∙ offset g c) ∙ decided_other _ (vector_tests (kind g c) (code g c) (used g c) c.args.space.now.limit) _ _ c.in_ok-pad.ensures.answer
 
-pub returns-in-Ok : goal.returns-in-Ok
-returns-in-Ok g c =
-    let m = g.T.Kind.meaning in
-    let law = g.T.Kind.lawful in
-    let list = g.S.Allocator.list in
-    let limit = g.S.Allocator.limit in
-    let s = c.args.space.now in
-    let items = c.args.items.now in
-    let after = c.prepend_vector.new.space in
-    let code : List Pushed = map (pushed m law) items in
-    let used = length (taken list s) in
-    let count = sym (length-map items (pushed m law)) in
-    let found = found_padding _ _ _ c.in-Some.ensures in
-    let pad = found.1 ∙ same_padding c.used-used.result used (length items) (length code) c.size.result m.size c.alignment.result m.alignment c.used-used.ensures count c.size.ensures c.alignment.ensures in
-    let space = same_space c.used-used.result used (length items) (length code) c.size.result m.size c.alignment.result m.alignment c.used-used.ensures count c.size.ensures c.alignment.ensures in
-    let low : vector_offset (layout m law) code used ≤ 2147483647 = omega (arith, found.0, space) in
-    let stand : all_stand code used ≡ true = ap (all_stand code) (sym c.used-used.ensures) ∙ sym c.if-not-all_offsets_stand.ensures in
-    let done = vector_written m law list limit s after items c.in-Some.pad true pad c.in-Ok.ensures.space in
-    let offset : c.used.result ≡ vector_offset (layout m law) code used = c.used.ensures ∙ prepended_used list limit s after _ _ (length_vector (layout m law) code used (all_of m law items)) done in
-    record {
-      answer = ap Ok offset ∙ sym (vector_done (layout m law) code used (limit s.allocator) stand low (prepended_allowed list limit s after true _ _ (length_vector (layout m law) code used (all_of m law items)) done));
-      space = done;
-      fit = c.in-Ok.ensures.fit;
-    }
+pub returns-clause-space : goal.returns-clause-space
+returns-clause-space g c = written g c

@@ -12,31 +12,13 @@ use Rattle.wire.proofs.Decided.{decided_err, passed_on, tests_low}
 use Rattle.builder.specs.declared.inner.Open.{Open}
 use Rattle.builder.specs.declared.inner.Open.TheVariants.{Table}
 use Rattle.builder.specs.View.{nest_of, view}
-use Rattle.builder.proofs.Wrapped.{fronted_limit, fronted_short, kept_refused, left_is, length_table, pass_two}
+use Rattle.builder.proofs.Wrapped.{unfinished, fronted_limit, kept_refused, left_is, length_table, pass_two}
 use Rattle.builder.proofs.builder.FlatBufferBuilder.end_table.Goals as goal
-
-pub invariant_of-self : goal.invariant_of-self
-invariant_of-self g c =
-    let list = g.S.Allocator.list in
-    let limit = g.S.Allocator.limit in
-    let b = c.args.self.now in
-    let s = view list limit b in
-    let ls = fields b.inner.field_locs in
-    let used = length s.used in
-    let start = c.args.start in
-    let vt = table_vtable used start ls in
-    let found = equal_object s.used vt s.vtables in
-    let ts = table_tests start ls s.used s.vtables s.limit in
-    let after = c.end_table.new.space in
-    let told = c.in_err-off.ensures in
-    record { short = fronted_short list limit b.space after _ _ 2147483647 told.store told.used b.short }
 
 pub returns-in_err-off : goal.returns-in_err-off
 returns-in_err-off g c =
-    let list = g.S.Allocator.list in
-    let limit = g.S.Allocator.limit in
     let b = c.args.self.now in
-    let s = view list limit b in
+    let s = view b in
     let ls = fields b.inner.field_locs in
     let used = length s.used in
     let start = c.args.start in
@@ -49,24 +31,22 @@ returns-in_err-off g c =
     let ends : not (ends_table start s.nest) ≡ false = ap (λ (o : Open). not (ends_table start (nest_of o ls))) nest ∙ ap not (eq-eqb start start refl) in
     let same : end_table_tests s.nest s ≡ ts = ap (λ (o : Open). end_table_tests (nest_of o ls) s) nest in
     let pass : (y : Reply) → decided (tests (Call.end_table start) s) y ≡ decided ts y =
-    λ y. pass_two s (not (ends_table start s.nest) because NotOpen) (end_table_tests s.nest s) c.if-self.false ends y ∙ ap (λ (us : List Test). decided us y) same in
+    λ y. pass_two s (not (ends_table start s.nest) because NotOpen) (end_table_tests s.nest s) (unfinished _ _ c.in_ok-assert_not_finished.ensures) ends y ∙ ap (λ (us : List Test). decided us y) same in
     let answer = decided_err _ ts _ (at (table_offset used)) told.answer ∙ sym (pass (at (table_offset used))) in
-    let p = err_from_is_err_and c.from_residual.result c.from_residual.ensures.1 in
+    let p = err_from_is_err_and c.from_residual-in_err-off.result c.from_residual-in_err-off.ensures.1 in
     rw (p.1, p.2) record {
       answer = answer;
       state =
-          left_is s _ _ _ (fronted_limit list limit b.space after _ _ told.store) told.used told.vtables
+          left_is s _ _ _ (fronted_limit b.space after _ _ told.store) told.used told.vtables
           ∙ sym (kept_refused _ (tests (Call.end_table start) s) (at (table_offset used)) (effect (Call.end_table start) s) s answer);
-      store = subst (λ (k : ℕ). Where (leb 12 (number c.in_err-off.field-0.0)) (Fronted list limit b.space after k 0 (eqb (number c.in_err-off.field-0.0) 12)) (after ≡ b.space))
+      store = subst (λ (k : ℕ). Where (leb 12 (number c.in_err-off.field-0.0)) (Fronted b.space after k 0 (eqb (number c.in_err-off.field-0.0) 12)) (after ≡ b.space))
           (sym (ap (λ (o : Open). table_needs (nest_of o ls) used) nest)) told.store;
     }
 
 pub invariant_of-self-2 : goal.invariant_of-self-2
 invariant_of-self-2 g c =
-    let list = g.S.Allocator.list in
-    let limit = g.S.Allocator.limit in
     let b = c.args.self.now in
-    let s = view list limit b in
+    let s = view b in
     let ls = fields b.inner.field_locs in
     let used = length s.used in
     let start = c.args.start in
@@ -79,4 +59,4 @@ invariant_of-self-2 g c =
     let one = (passed_on (ltb 65535 (table_offset used - start) because TableTooLarge) rest _ _ made.answer).1 in
     let low = tests_low (table_space used vt found) (above (table_offset used + length vt) s.limit ∷ ((not (is_some found) && no_room (length s.vtables)) because Full) ∷ []) _ _ one in
     let long = ap length made.used ∙ length-append (table_bytes used vt found) s.used ∙ length_table used vt found in
-    record { short = omega (arith, low, long, made.store.bounded, b.short) }
+    record { short = omega (arith, low, long, b.short) }

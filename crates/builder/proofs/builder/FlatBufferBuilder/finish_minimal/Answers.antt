@@ -5,5 +5,5 @@ use Rattle.builder.proofs.builder.FlatBufferBuilder.finish_minimal.Goals as goal
 
 pub returns : goal.returns
 returns g c =
-    subst (λ (id : Option (List ℕ)). Did g.S.Allocator.list g.S.Allocator.limit (λ _. done) (Call.finish c.args.root id false) c.args.self.now c.finish_with_opts.new.self c.finish_with_opts.result)
+    subst (λ (id : Option (List ℕ)). Did (λ _. done) (Call.finish c.args.root id false) c.args.self.now c.finish_with_opts.new.self c.finish_with_opts.result)
     c.no_identifier.ensures c.finish_with_opts.ensures

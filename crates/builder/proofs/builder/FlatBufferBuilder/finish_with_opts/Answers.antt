@@ -1,4 +1,4 @@
-use Rattle.std.proofs.Common.{◌≡◌, ℕ, false, not, List, ◌∷◌, length, Some, Option, refl, ap, arith, lit<}
+use Rattle.std.proofs.Common.{ℕ, not, List, ◌∷◌, length, Some, Option, refl, arith, lit<}
 use Rattle.std.proofs.lemmas.Result.{err_from_is_err_and}
 use Rattle.space.proofs.Spaces.{prepended_used}
 use Rattle.model.specs.Calls.{Call, done}
@@ -7,9 +7,8 @@ use Rattle.wire.specs.declared.refusal.Refusal.TheVariants.{Nested, Offset}
 use Rattle.wire.specs.Answers.{space_tests, ◌because◌}
 use Rattle.wire.proofs.Decided.{passed_on, space_low}
 use Rattle.tables.specs.Fields.{fields}
-use Rattle.builder.specs.declared.inner.Open.{Open}
-use Rattle.builder.specs.View.{nest_of, view}
-use Rattle.builder.proofs.Wrapped.{did_done, did_refused, pass_two, closed_is}
+use Rattle.builder.specs.View.{view}
+use Rattle.builder.proofs.Wrapped.{did_done, did_refused, pass_two, closed_is, unnested}
 use Rattle.std.specs.Option.{option_map}
 use Rattle.model.specs.Finish.{finish_bytes, finish_space, finish_tests, identifier_stands}
 use Rattle.finish.proofs.Heads.{length_finish}
@@ -19,10 +18,8 @@ use Rattle.builder.proofs.builder.FlatBufferBuilder.finish_with_opts.Goals as go
 
 pub returns-in_err-finish : goal.returns-in_err-finish
 returns-in_err-finish g c =
-    let list = g.S.Allocator.list in
-    let limit = g.S.Allocator.limit in
     let b = c.args.self.now in
-    let s = view list limit b in
+    let s = view b in
     let used = length s.used in
     let id : Option (List ℕ) = option_map (λ x. x.now) c.args.file_identifier in
     let prefixed = c.args.size_prefixed in
@@ -30,18 +27,16 @@ returns-in_err-finish g c =
     let bytes = finish_bytes c.args.root id prefixed used s.met in
     let size = length_finish c.args.root id prefixed used s.met in
     let call = Call.finish c.args.root id prefixed in
-    let closed : is_open s.nest ≡ false = ap (λ (o : Open). is_open (nest_of o (fields b.inner.field_locs))) c.in-Nothing.is in
+    let free = unnested _ b.inner.nest (fields b.inner.field_locs) _ c.in_ok-assert_not_nested.ensures in
     let told = c.in_err-finish.ensures in
-    let p = err_from_is_err_and c.from_residual.result c.from_residual.ensures.1 in
-    rw (p.1, p.2) (did_refused list limit b _ call refl (λ _. done) _ ts (tt {0}) bytes (lit< tt, (lit< tt, (lit< tt, (lit< tt, tt)))) told.answer
-    (pass_two s (is_open s.nest because Nested) ts c.if-self.false closed) size told.space)
+    let p = err_from_is_err_and c.from_residual-in_err-finish.result c.from_residual-in_err-finish.ensures.1 in
+    rw (p.1, p.2) (did_refused b _ call refl (λ _. done) _ ts (tt {0}) bytes (lit< tt, (lit< tt, (lit< tt, (lit< tt, tt)))) told.answer
+    (pass_two s (is_open s.nest because Nested) ts free.0 free.1) size told.space)
 
 pub invariant_of-self-2 : goal.invariant_of-self-2
 invariant_of-self-2 g c =
-    let list = g.S.Allocator.list in
-    let limit = g.S.Allocator.limit in
     let b = c.args.self.now in
-    let s = view list limit b in
+    let s = view b in
     let used = length s.used in
     let id : Option (List ℕ) = option_map (λ x. x.now) c.args.file_identifier in
     let prefixed = c.args.size_prefixed in
@@ -54,14 +49,12 @@ invariant_of-self-2 g c =
     let one = (passed_on (not (identifier_stands id) because Identifier) rest _ _ made.answer).1 in
     let two = (passed_on (not (stands (Some c.args.root) used) because Offset) (space_tests (finish_space id prefixed used s.met) s.limit) _ _ one).1 in
     let low = space_low (finish_space id prefixed used s.met) s.limit _ _ two in
-    record { short = omega (arith, low, made.space.settled, prepended_used list limit b.space c.finish.new.space _ _ size made.space) }
+    record { short = omega (arith, low, prepended_used b.space c.finish.new.space _ _ size made.space) }
 
 pub returns : goal.returns
 returns g c =
-    let list = g.S.Allocator.list in
-    let limit = g.S.Allocator.limit in
     let b = c.args.self.now in
-    let s = view list limit b in
+    let s = view b in
     let used = length s.used in
     let id : Option (List ℕ) = option_map (λ x. x.now) c.args.file_identifier in
     let prefixed = c.args.size_prefixed in
@@ -69,10 +62,10 @@ returns g c =
     let bytes = finish_bytes c.args.root id prefixed used s.met in
     let size = length_finish c.args.root id prefixed used s.met in
     let call = Call.finish c.args.root id prefixed in
-    let closed : is_open s.nest ≡ false = ap (λ (o : Open). is_open (nest_of o (fields b.inner.field_locs))) c.in-Nothing.is in
+    let free = unnested _ b.inner.nest (fields b.inner.field_locs) _ c.in_ok-assert_not_nested.ensures in
     let made = c.in_ok-finish.ensures in
-    did_done list limit b _ call (λ _. done) tt _ _ ts bytes made.answer
-    (pass_two s (is_open s.nest because Nested) ts c.if-self.false closed)
+    rw c.track_min_align.ensures (did_done b _ call (λ _. done) tt _ _ ts bytes made.answer
+    (pass_two s (is_open s.nest because Nested) ts free.0 free.1)
     refl
-    (closed_is s _ _ _ bytes _ made.space.limited made.space.used c.max-self.ensures c.clear.ensures)
-    refl size made.space
+    (closed_is s _ _ _ bytes _ made.space.limited made.space.used refl c.clear.ensures)
+    refl size made.space)

@@ -1,13 +1,11 @@
-use Rattle.std.proofs.Common.{◌∙◌, arith}
+use Rattle.std.proofs.Common.{◌∙◌, sym}
+use Rattle.tables.specs.Fields.{fields}
 use Rattle.tables.proofs.Places.{distance_found, distance_missing}
 use Rattle.tables.proofs.field_locs.FieldLocs.distance.Goals as goal
 
-pub returns-then-i-self : goal.returns-then-i-self
-returns-then-i-self c =
-    let s = c.args.self.now in
-    c.saturating_sub.ensures ∙ distance_found s.items s.count c.args.slot c.args.table c.place-i.result (omega arith) c.place-i.ensures c.if-i-self.true
+pub returns-in-Some : goal.returns-in-Some
+returns-in-Some c =
+    c.saturating_sub.ensures ∙ distance_found (fields c.args.self.now) _ c.args.slot c.in-Some.i c.deref.ensures.0 (sym c.place.ensures ∙ c.in-Some.is) c.args.table
 
-pub returns-else-i-self : goal.returns-else-i-self
-returns-else-i-self c =
-    let s = c.args.self.now in
-    distance_missing s.items s.count c.args.slot c.args.table c.place-i.result (omega arith) c.place-i.ensures c.if-i-self.false
+pub returns-in-None : goal.returns-in-None
+returns-in-None c = distance_missing (fields c.args.self.now) c.args.slot c.args.table (sym c.place.ensures ∙ c.in-None.is)

@@ -1,84 +1,45 @@
-use Rattle.std.proofs.Common.{◌≡◌, ◌<◌, true, not, sym, refl, ap, ◌∙◌, arith, length-set}
-use Rattle.std.proofs.lemmas.List.{length-take-le}
-use Rattle.std.proofs.lemmas.Bool.{eq-eqb, ne_eqb}
-use Rattle.model.specs.Tables.{slot_stands}
+use Rattle.std.proofs.Common.{◌∙◌, refl, sym, cond, ap}
+use Rattle.model.specs.Tables.{record_slot}
 use Rattle.tables.specs.Fields.{fields}
-use Rattle.tables.proofs.Places.{place_le, full_at, allowed, replaced, replaced_once, replaced_slots, appended, appended_once, appended_slots}
+use Rattle.tables.proofs.Places.{moved_recorded, moved_once, moved_slots, allowed_old, pushed_recorded, pushed_once, pushed_slots, allowed_new}
 use Rattle.tables.proofs.field_locs.FieldLocs.record.Goals as goal
 
 pub invariant_of-self : goal.invariant_of-self
 invariant_of-self c =
     let s = c.args.self.now in
-    let i = c.place-i.result in
+    let found = sym c.place.ensures ∙ c.in-Some.is in
     record {
-      long = length-set s.items i _ ∙ s.long;
-      few = s.few;
-      once = replaced_once s.items s.count c.args.slot c.args.off i _ (omega arith) c.if-i-self.true c.place-i.ensures refl s.once;
-      slots = replaced_slots s.items s.count c.args.slot c.args.off i _ (omega arith) c.if-i-self.true c.place-i.ensures refl s.slots;
+      once = moved_once (fields s) _ c.args.slot c.in-Some.i c.deref_mut.ensures.value found c.args.off s.once;
+      slots = moved_slots (fields s) _ c.args.slot c.in-Some.i c.deref_mut.ensures.value found c.args.off s.slots;
     }
 
-pub returns-then-i-self : goal.returns-then-i-self
-returns-then-i-self c =
+pub returns-in-Some-clause-value : goal.returns-in-Some-clause-value
+returns-in-Some-clause-value c =
+    let rs = fields c.args.self.now in
+    allowed_old rs rs c.args.slot c.in-Some.i refl (sym c.place.ensures ∙ c.in-Some.is) (sym c.if-not-valid_slot.ensures)
+
+pub returns-in-Some-clause-fields : goal.returns-in-Some-clause-fields
+returns-in-Some-clause-fields c =
+    moved_recorded (fields c.args.self.now) _ c.args.slot c.in-Some.i c.deref_mut.ensures.value (sym c.place.ensures ∙ c.in-Some.is) c.args.off
+
+pub invariant_of-self-in-None : goal.invariant_of-self-in-None
+invariant_of-self-in-None c =
     let s = c.args.self.now in
-    let i = c.place-i.result in
-    let stands : slot_stands c.args.slot ≡ true = sym c.if-not-valid_slot.ensures in
+    let missing = sym c.place.ensures ∙ c.in-None.is in
+    let p = c.try_push.ensures in
     record {
-      value = allowed _ _ _ stands (full_at s.items s.count c.args.slot i (omega arith) (omega arith) c.place-i.ensures ∙ ap not (ne_eqb i 256 (λ e. omega arith)));
-      fields = replaced s.items s.count c.args.slot c.args.off i _ (omega arith) c.if-i-self.true c.place-i.ensures refl;
+      once = pushed_once s.items c.try_push.new.self c.args.slot c.args.off c.try_push.result missing p.ok p.err s.once;
+      slots = pushed_slots s.items c.try_push.new.self c.args.slot c.args.off c.try_push.result missing p.ok p.err (sym c.if-not-valid_slot.ensures) s.slots;
     }
 
-pub returns-then-i-eq-SLOTS : goal.returns-then-i-eq-SLOTS
-returns-then-i-eq-SLOTS c =
-    let s = c.args.self.now in
-    let i = c.place-i.result in
-    let stands : slot_stands c.args.slot ≡ true = sym c.if-not-valid_slot.ensures in
-    record {
-      value = allowed _ _ _ stands (full_at s.items s.count c.args.slot i (omega arith) (omega arith) c.place-i.ensures ∙ ap not (eq-eqb i 256 c.if-i-eq-SLOTS.true));
-      fields = refl;
-    }
+pub returns-in-None-clause-value : goal.returns-in-None-clause-value
+returns-in-None-clause-value c =
+    c.is_ok.ensures.value
+    ∙ allowed_new (fields c.args.self.now) c.args.slot c.try_push.result (sym c.place.ensures ∙ c.in-None.is) (sym c.if-not-valid_slot.ensures) c.try_push.ensures.variant
 
-pub offset_bounds-self-i-2 : goal.offset_bounds-self-i-2
-offset_bounds-self-i-2 c =
+pub returns-in-None-clause-fields : goal.returns-in-None-clause-fields
+returns-in-None-clause-fields c =
     let s = c.args.self.now in
-    let most = place_le (fields s) c.args.slot in
-    omega (arith, c.place-i.ensures, length-take-le s.count s.items (omega arith))
-
-pub bounds-self-i-2 : goal.bounds-self-i-2
-bounds-self-i-2 c =
-    let s = c.args.self.now in
-    let most = place_le (fields s) c.args.slot in
-    omega (arith, c.place-i.ensures, c.if-i-eq-SLOTS.false, length-take-le s.count s.items (omega arith))
-
-pub overflow_add-self : goal.overflow_add-self
-overflow_add-self c =
-    let s = c.args.self.now in
-    let most = place_le (fields s) c.args.slot in
-    omega (arith, c.place-i.ensures, length-take-le s.count s.items (omega arith))
-
-pub invariant_of-self-2 : goal.invariant_of-self-2
-invariant_of-self-2 c =
-    let s = c.args.self.now in
-    let i = c.place-i.result in
-    let most = place_le (fields s) c.args.slot in
-    let long = length-take-le s.count s.items (omega arith) in
-    let low : i < 256 = omega (arith, c.place-i.ensures, c.if-i-eq-SLOTS.false) in
-    let stands : slot_stands c.args.slot ≡ true = sym c.if-not-valid_slot.ensures in
-    record {
-      long = length-set s.items i _ ∙ s.long;
-      few = omega arith;
-      once = appended_once s.items s.count c.args.slot c.args.off i (omega arith) (omega arith) c.if-i-self.false c.place-i.ensures s.once;
-      slots = appended_slots s.items s.count c.args.slot c.args.off i (omega arith) (omega arith) c.if-i-self.false c.place-i.ensures stands s.slots;
-    }
-
-pub returns : goal.returns
-returns c =
-    let s = c.args.self.now in
-    let i = c.place-i.result in
-    let most = place_le (fields s) c.args.slot in
-    let long = length-take-le s.count s.items (omega arith) in
-    let low : i < 256 = omega (arith, c.place-i.ensures, c.if-i-eq-SLOTS.false) in
-    let stands : slot_stands c.args.slot ≡ true = sym c.if-not-valid_slot.ensures in
-    record {
-      value = allowed _ _ _ stands (full_at s.items s.count c.args.slot i (omega arith) (omega arith) c.place-i.ensures ∙ ap not (ne_eqb i 256 c.if-i-eq-SLOTS.false));
-      fields = appended s.items s.count c.args.slot c.args.off i (omega arith) (omega arith) c.if-i-self.false c.place-i.ensures;
-    }
+    let p = c.try_push.ensures in
+    pushed_recorded s.items c.try_push.new.self c.args.slot c.args.off c.try_push.result (sym c.place.ensures ∙ c.in-None.is) p.ok p.err
+    ∙ ap (λ b. cond b (record_slot c.args.slot c.args.off (fields s)) (fields s)) (sym c.is_ok.ensures.value)

@@ -1,8 +1,8 @@
-use Rattle.std.proofs.Common.{sym, arith}
-use Rattle.tables.proofs.Places.{full_at}
+use Rattle.std.proofs.Common.{is_some, ap, ◌∙◌, arith}
+use Rattle.tables.specs.Fields.{fields}
+use Rattle.tables.proofs.Places.{full_allows}
 use Rattle.tables.proofs.field_locs.FieldLocs.room_for.Goals as goal
 
-pub returns : goal.returns
-returns c =
-    let s = c.args.self.now in
-    sym (full_at s.items s.count c.args.slot c.place.result (omega arith) (omega arith) c.place.ensures)
+pub returns-else-len-lt-SLOTS : goal.returns-else-len-lt-SLOTS
+returns-else-len-lt-SLOTS c =
+    c.is_some.ensures ∙ ap is_some c.place.ensures ∙ full_allows (fields c.args.self.now) c.args.slot (omega arith)
