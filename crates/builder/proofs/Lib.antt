@@ -1,1 +1,3 @@
 pub mod Wrapped
+pub mod Pooling
+pub mod Slots

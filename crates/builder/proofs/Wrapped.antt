@@ -1,15 +1,18 @@
 -- How a call over the space becomes one of the builder.
-use Rattle.std.proofs.Common.{◌≡◌, ℕ, ◌+◌, ◌<◌, max, Bool, true, false, cond, not, ◌&&◌, eqb, leb, List, [], ◌∷◌, ◌++◌, length, Some, None, Ok, Err, Option, Result, sym, refl, ap, ◌∙◌, subst, arith, length-append}
+use Rattle.std.proofs.Common.{◌≡◌, ℕ, ◌+◌, ◌<◌, ◌≤◌, max, Bool, true, false, cond, not, eqb, ltb, leb, List, [], ◌∷◌, ◌++◌, length, Some, None, Ok, Err, Option, Result, sym, refl, ap, ◌∙◌, subst, arith, length-append}
 use lib.ListN.{length-replicate}
 use Rattle.space.specs.Taken.{Parts, Prepended, Fronted, Spaced}
 use Rattle.store.specs.declared.allocator.Allocator.{Ghosts}
-use Rattle.space.proofs.Spaces.{fronted_done, fronted_refused, fronted_spaced}
+use Rattle.space.proofs.Spaces.{fronted_done, fronted_refused, fronted_spaced, prepended_refused, prepended_used}
 use Rattle.std.specs.List.{AllByRecursion}
-use Rattle.std.proofs.lemmas.Bool.{eq-eqb, leb-true}
+use Rattle.std.proofs.lemmas.Bool.{eq-eqb, leb-true, ltb-false}
+use Rattle.std.proofs.lemmas.Result.{err_from_is_err_and}
+use Rattle.vectors.specs.Written.{Roomed, Wrote}
+use Rattle.vectors.proofs.Created.{passed}
 use Rattle.wire.specs.declared.refusal.Refusal.{Refusal}
 use Rattle.wire.specs.declared.refusal.Refusal.TheVariants.{Finished, NotFinished, Nested, NotOpen, Slot, Identifier, Offset, Text, TableTooLarge, MissingSlot, TooLong, Store, Full}
 use Rattle.wire.specs.Answers.{Why, Test, Where, decided, erased, number, ◌because◌}
-use Rattle.wire.proofs.Decided.{decided_err, decided_other, decided_pass}
+use Rattle.wire.proofs.Decided.{asked_refused, decided_err, decided_err_more, decided_ok, decided_other, decided_pass}
 use Rattle.model.specs.Calls.{Call, Reply}
 use Rattle.model.specs.declared.field_loc.FieldLoc.{FieldLoc}
 use Rattle.model.specs.State.{Nest, State, table, vector}
@@ -24,26 +27,18 @@ use Rattle.builder.specs.declared.inner.Open.{Open}
 use Rattle.builder.specs.declared.inner.Open.TheVariants.{Nothing, Table, Vector}
 use Rattle.builder.specs.Inner.{is_nothing, is_table}
 use Rattle.tables.specs.Fields.{fields}
-use Rattle.std.specs.Prelude.{if◌then◌else◌}
+use Rattle.std.specs.Prelude.{if◌then◌else◌, IsErrAnd}
 use Rattle.wire.specs.Slots.{slot_stands}
 use Rattle.builder.specs.View.{nest_of, state_of, view, Did}
 
 -- what is left, by what was told
 pub kept_refused : {A : Type 0} (w : Why) (ts : List Test) (x : A) (next s : State) → Err w ≡ decided ts x → kept ts next s ≡ s
-kept_refused w [] x next s e = let z : ◌≡◌ {A = ℕ} 0 1 = cc in absurd (omega arith)
-kept_refused w (t ∷ ts) x next s e = by t.fails e (kept_refused w ts x next s)
-  where
-    by : (b : Bool) → Err w ≡ cond b (Err t.why) (decided ts x) → (Err w ≡ decided ts x → kept ts next s ≡ s) → cond b s (kept ts next s) ≡ s
-    by true e rest = refl
-    by false e rest = rest e
+kept_refused w [] x next s e = cc
+kept_refused w (t ∷ ts) x next s e = grind (arith, kept_refused w ts x next s)
 
 pub kept_done : {A : Type 0} (v x : A) (ts : List Test) (next s : State) → Ok v ≡ decided ts x → kept ts next s ≡ next
 kept_done v x [] next s e = refl
-kept_done v x (t ∷ ts) next s e = by t.fails e (kept_done v x ts next s)
-  where
-    by : (b : Bool) → Ok v ≡ cond b (Err t.why) (decided ts x) → (Ok v ≡ decided ts x → kept ts next s ≡ next) → cond b s (kept ts next s) ≡ next
-    by true e rest = let z : ◌≡◌ {A = ℕ} 0 1 = cc in absurd (omega arith)
-    by false e rest = rest e
+kept_done v x (t ∷ ts) next s e = grind (arith, kept_done v x ts next s)
 
 -- the tests before those of the call over the space
 module _ (s : State) (t : Test) (ts : List Test) (going : s.finished ≡ false) (pass : t.fails ≡ false) where
@@ -56,15 +51,14 @@ module _ (s : State) (t u : Test) (ts : List Test) (going : s.finished ≡ false
 
 -- what is known after the checks before a call
 pub unfinished : {E : Type 0} (b : Bool) (x : Unit {0}) → ◌≡◌ {A = Result (Unit {0}) (Refusal E)} (Ok x) (if b then Err Finished else Ok tt) → b ≡ false
-unfinished false x e = refl
-unfinished true x e = let z : ◌≡◌ {A = ℕ} 0 1 = cc in absurd (omega arith)
+unfinished b x e = grind arith
 
 pub unnested : {E : Type 0} (b : Bool) (o : Open) (ls : List FieldLoc) (x : Unit {0}) → ◌≡◌ {A = Result (Unit {0}) (Refusal E)} (Ok x) (if b then Err Finished else if is_nothing o then Ok tt else Err Nested)
     → (b ≡ false) × (is_open (nest_of o ls) ≡ false)
 unnested false Nothing ls x e = (refl, refl)
-unnested false (Table start) ls x e = let z : ◌≡◌ {A = ℕ} 0 1 = cc in absurd (omega arith)
-unnested false (Vector start size count) ls x e = let z : ◌≡◌ {A = ℕ} 0 1 = cc in absurd (omega arith)
-unnested true o ls x e = let z : ◌≡◌ {A = ℕ} 0 1 = cc in absurd (omega arith)
+unnested false (Table start) ls x e = cc
+unnested false (Vector start size count) ls x e = cc
+unnested true o ls x e = cc
 
 -- a table is open, with these records, and the slot stands
 pub record SlotOf (o : Open) (n : ℕ) (ls : List FieldLoc) : Type 0 where
@@ -79,26 +73,10 @@ slot_open {E} false (Table start) n ls x e =
     (refl, record { within = refl; stands = by (slot_stands n) e; its = refl; recorded = λ off ls' is. ap (table start) is })
   where
     by : (t : Bool) → ◌≡◌ {A = Result (Unit {0}) (Refusal E)} (Ok x) (if t then Ok tt else Err Slot) → not t ≡ false
-    by true e = refl
-    by false e = let z : ◌≡◌ {A = ℕ} 0 1 = cc in absurd (omega arith)
-slot_open false Nothing n ls x e = let z : ◌≡◌ {A = ℕ} 0 1 = cc in absurd (omega arith)
-slot_open false (Vector start size count) n ls x e = let z : ◌≡◌ {A = ℕ} 0 1 = cc in absurd (omega arith)
-slot_open true o n ls x e = let z : ◌≡◌ {A = ℕ} 0 1 = cc in absurd (omega arith)
-
--- tests turned round
-pub not_not : (a : Bool) → not a ≡ false → a ≡ true
-not_not true e = refl
-not_not false e = sym e
-
-pub not_not' : (a : Bool) → not a ≡ true → a ≡ false
-not_not' false e = refl
-not_not' true e = sym e
-
-pub both : (a b : Bool) → a ≡ true → b ≡ true → (a && b) ≡ true
-both a b ea eb = rw (ea, eb)
-
-pub put_done : {X : Type 0} (b : Bool) (xs ys zs : List X) → b ≡ true → zs ≡ cond b xs ys → zs ≡ xs
-put_done b xs ys zs t e = e ∙ ap (λ (r : Bool). cond r xs ys) t
+    by t e = grind arith
+slot_open false Nothing n ls x e = cc
+slot_open false (Vector start size count) n ls x e = cc
+slot_open true o n ls x e = cc
 
 -- equal parts make equal states
 pub same_state : (l l' : ℕ) (u u' : List ℕ) (i : Inner) → l ≡ l' → u ≡ u' → state_of l u i ≡ state_of l' u' i
@@ -182,7 +160,7 @@ abbrev pub NotFull : List Test → Type 0
 NotFull ts = AllByRecursion (λ t. number t.why < 13) ts
 
 pub told_few : {A : Type 0} (w : Why) (ts : List Test) (x : A) → NotFull ts → Err w ≡ decided ts x → number w < 13
-told_few w [] x few e = let z : ◌≡◌ {A = ℕ} 0 1 = cc in absurd (omega arith)
+told_few w [] x few e = cc
 told_few w (t ∷ ts) x few e = by t.fails e (told_few w ts x few.1)
   where
     by : (b : Bool) → Err w ≡ cond b (Err t.why) (decided ts x) → (Err w ≡ decided ts x → number w < 13) → number w < 13
@@ -197,7 +175,7 @@ slot_told true o t ls rest y e is = let same : e ≡ Finished = cc in rw same (r
 slot_told false Nothing t ls rest y e is = let same : e ≡ NotOpen = cc in rw same (refl, refl)
 slot_told false (Vector start size count) t ls rest y e is = let same : e ≡ NotOpen = cc in rw same (refl, refl)
 slot_told false (Table start) false ls rest y e is = let same : e ≡ Slot = cc in rw same (refl, refl)
-slot_told false (Table start) true ls rest y e is = let z : ◌≡◌ {A = ℕ} 0 1 = cc in absurd (omega arith)
+slot_told false (Table start) true ls rest y e is = cc
 
 module _ {S E : Type 0} {G : Ghosts S E} (b : FlatBufferBuilder S E G) (c : Call) where
   pub slot_refused : {A : Type 0} (reply : A → Reply) (n : ℕ) (rest : List Test) (e : Refusal E)
@@ -243,14 +221,23 @@ module _ {S E : Type 0} {G : Ghosts S E} (old new : FlatBufferBuilder S E G) (c 
       asked false is small q = q
 
   -- the same where the tests of the call over the space are the last ones
-  pub did_refused : {A B : Type 0} (reply : A → Reply) (e : Refusal E) (ts : List Test) (x : B) (bytes : List ℕ)
-      → NotFull ts → Err (erased e) ≡ decided ts x → ((y : Reply) → decided (tests c (view old)) y ≡ decided ts y)
+  pub did_refused : {A B : Type 0} (reply : A → Reply) {e : Refusal E} {ts : List Test} {x : B} {bytes : List ℕ}
+      → NotFull ts → Wrote old.space new.space (Err e) ts x bytes → ((y : Reply) → decided (tests c (view old)) y ≡ decided ts y)
       → length old.space.taken + length bytes ≡ needs c (view old)
-      → Where (leb 12 (number e)) (Prepended old.space new.space false bytes) (new.space ≡ old.space)
       → Did reply c old new (Err e)
-  did_refused reply e ts x bytes few told pass size space =
-      did_refused_by reply e bytes (told_few (erased e) ts x few told)
-      (decided_err (erased e) ts x (Steps.reply c (view old)) told ∙ sym (pass (Steps.reply c (view old)))) size space
+  did_refused reply {e} {ts} {x} {bytes} few told pass size =
+      did_refused_by reply e bytes (told_few (erased e) ts x few told.answer)
+      (decided_err (erased e) ts x (Steps.reply c (view old)) told.answer ∙ sym (pass (Steps.reply c (view old)))) size told.space
+
+  -- the same where other tests follow them
+  pub did_refused_more : {A B : Type 0} (reply : A → Reply) {e : Refusal E} {ts : List Test} {x : B} {bytes : List ℕ} (us : List Test)
+      → NotFull ts → Wrote old.space new.space (Err e) ts x bytes
+      → decided (tests c (view old)) (Steps.reply c (view old)) ≡ decided (ts ++ us) (Steps.reply c (view old))
+      → length old.space.taken + length bytes ≡ needs c (view old)
+      → Did reply c old new (Err e)
+  did_refused_more reply {e} {ts} {x} {bytes} us few told pass size =
+      did_refused_by reply e bytes (told_few (erased e) ts x few told.answer)
+      (decided_err_more (erased e) ts us _ (decided_err (erased e) ts x (Steps.reply c (view old)) told.answer) ∙ sym pass) size told.space
 
   -- room was made, and then a table of entries was full
   pub did_full : {A : Type 0} (reply : A → Reply) (want : ℕ) → Err Full ≡ answered c (view old)
@@ -286,14 +273,38 @@ module _ {S E : Type 0} {G : Ghosts S E} (old new : FlatBufferBuilder S E G) (c 
       }
 
   -- the same where the tests of the call over the space are the last ones
-  pub did_done : {A B : Type 0} (reply : A → Reply) (v : A) (w x : B) (ts : List Test) (bytes : List ℕ)
-      → Ok w ≡ decided ts x → ((y : Reply) → decided (tests c (view old)) y ≡ decided ts y)
+  pub did_done : {A B : Type 0} (reply : A → Reply) (v : A) {w x : B} {ts : List Test} {bytes : List ℕ}
+      → Wrote {E = E} old.space new.space (Ok w) ts x bytes → ((y : Reply) → decided (tests c (view old)) y ≡ decided ts y)
       → reply v ≡ Steps.reply c (view old)
       → view new ≡ effect c (view old)
       → returns c (view old) ≡ 0
       → length old.space.taken + length bytes ≡ needs c (view old)
-      → Prepended old.space new.space true bytes
       → Did reply c old new (Ok v)
-  did_done reply v w x ts bytes told pass value state none size space =
+  did_done reply v {w} {x} {ts} {bytes} made pass value state none size =
       let s = view old in
-      did_done_by reply v bytes (ap Ok value ∙ decided_other w ts x (Steps.reply c s) told ∙ sym (pass (Steps.reply c s))) state none size space
+      did_done_by reply v bytes (ap Ok value ∙ decided_other w ts x (Steps.reply c s) made.answer ∙ sym (pass (Steps.reply c s))) state none size made.space
+
+-- where room for bytes is refused, so are the bytes
+pub roomed_wrote : {S A E : Type 0} {before after : Parts S} {e : Refusal E} {ts : List Test} {x : A} {want : ℕ} (bytes : List ℕ)
+    → Roomed {A = A} before after (Err e) ts x want → length before.taken + length bytes ≡ length before.taken + want → Wrote {A = A} before after (Err e) ts x bytes
+roomed_wrote {before = before} {after = after} {e = e} {want = want} bytes r long =
+    record {
+      answer = r.answer;
+      space = asked_refused e (Spaced before after false want) (Prepended before after false bytes) (after ≡ before) (λ h. prepended_refused before after want bytes h (omega arith)) r.space;
+    }
+
+-- a refusal that is handed on as it is
+pub did_handed : {S E A : Type 0} {G : Ghosts S E} {old new : FlatBufferBuilder S E G} {c : Call} {reply : A → Reply} {r : Result A (Refusal E)} {e : Refusal E}
+    → IsErrAnd r (λ y. y ≡ e) → Did reply c old new (Err e) → Did reply c old new r
+did_handed {r = r} h did = let p = err_from_is_err_and r h in rw (p.1, p.2) did
+
+-- what a call that wrote was told, and how long the used bytes are after it
+module _ {S A E : Type 0} {before after : Parts S} {v x : A} {ts : List Test} {bytes : List ℕ} where
+  pub wrote_passed : Wrote {E = E} before after (Ok v) ts x bytes → AllByRecursion (λ t. t.fails ≡ false) ts
+  wrote_passed made = passed ts v x made.answer
+
+  pub wrote_short : {n : ℕ} → Wrote {E = E} before after (Ok v) ts x bytes → length before.taken + length bytes ≡ n → ltb 2147483647 n ≡ false → length after.taken ≤ 2147483647
+  wrote_short {n} made size few = rw (prepended_used before after bytes n size made.space) (ltb-false 2147483647 n few)
+
+  pub wrote_value : Wrote {E = E} before after (Ok v) ts x bytes → v ≡ x
+  wrote_value made = decided_ok x v ts made.answer

@@ -1,4 +1,4 @@
-ghost use Rattle.std.specs.Prelude.{◌≡◌, ◌+◌, [], length};
+ghost use Rattle.std.specs.Prelude.{◌≡◌, ◌+◌, [], ◌++◌, length};
 ghost use Rattle.builder.specs.View.{view};
 ghost use Rattle.model.specs.Calls.{said, these, Call};
 ghost use Rattle.model.specs.Steps.{after, answered};
@@ -35,6 +35,8 @@ impl<S: Allocator> FlatBufferBuilder<S> {
     // The store, and where in its list the used bytes begin.
     pub fn collapse_in(self) -> (S, usize)
         ensures store { result.0 ≡ self.space.allocator }
+        ensures list { S.Allocator.list result.0 ≡ self.space.rest ++ self.space.taken }
+        ensures limit { S.Allocator.limit result.0 ≡ self.space.limit }
         ensures index { result.1 ≡ length self.space.rest }
     {
         let FlatBufferBuilder { space, inner: _ } = self;

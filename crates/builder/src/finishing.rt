@@ -1,7 +1,7 @@
 ghost use Rattle.std.specs.Prelude.{◌≡◌, ◌+◌, true, false, None};
 ghost use Rattle.builder.specs.View.{Did};
+ghost use Rattle.finish.specs.Given.{given};
 ghost use Rattle.model.specs.Calls.{done, Call};
-ghost use Rattle.std.specs.Option.{option_map};
 
 use crate::builder::FlatBufferBuilder;
 use crate::inner::Open;
@@ -17,7 +17,7 @@ impl<S: Allocator> FlatBufferBuilder<S> {
         file_identifier: Option<&[u8]>,
         size_prefixed: bool,
     ) -> Result<(), Refusal<S::Error>>
-        ensures { Did (λ _. done) (Call.finish root (option_map (λ x. x.now) file_identifier.entry) size_prefixed) self.old self.new result }
+        ensures { Did (λ _. done) (Call.finish root (given file_identifier.entry) size_prefixed) self.old self.new result }
     {
         self.inner.assert_not_nested()?;
         finish(
@@ -39,7 +39,7 @@ impl<S: Allocator> FlatBufferBuilder<S> {
         root: u32,
         file_identifier: Option<&[u8]>,
     ) -> Result<(), Refusal<S::Error>>
-        ensures { Did (λ _. done) (Call.finish root (option_map (λ x. x.now) file_identifier.entry) false) self.old self.new result }
+        ensures { Did (λ _. done) (Call.finish root (given file_identifier.entry) false) self.old self.new result }
     {
         self.finish_with_opts(root, file_identifier, false)
     }
@@ -50,7 +50,7 @@ impl<S: Allocator> FlatBufferBuilder<S> {
         root: u32,
         file_identifier: Option<&[u8]>,
     ) -> Result<(), Refusal<S::Error>>
-        ensures { Did (λ _. done) (Call.finish root (option_map (λ x. x.now) file_identifier.entry) true) self.old self.new result }
+        ensures { Did (λ _. done) (Call.finish root (given file_identifier.entry) true) self.old self.new result }
     {
         self.finish_with_opts(root, file_identifier, true)
     }
@@ -59,12 +59,6 @@ impl<S: Allocator> FlatBufferBuilder<S> {
     pub fn finish_minimal(&mut self, root: u32) -> Result<(), Refusal<S::Error>>
         ensures { Did (λ _. done) (Call.finish root None false) self.old self.new result }
     {
-        self.finish_with_opts(root, no_identifier(), false)
+        self.finish_with_opts(root, None, false)
     }
-}
-
-fn no_identifier<'a>() -> Option<&'a [u8]>
-    ensures { option_map (λ x. x.now) result ≡ None }
-{
-    None
 }

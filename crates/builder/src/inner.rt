@@ -4,12 +4,16 @@ use tables::offsets::Offsets;
 
 pub mod checks;
 
-// What is under construction: a table that began at an offset, or a vector of `count` elements of `size` bytes.
+// What is under construction: a table that began at an offset, or a vector that did, of `count` elements of `size` bytes.
 #[derive(Clone, Copy)]
 pub enum Open {
     Nothing,
     Table(u32),
-    Vector(u32, usize, usize),
+    Vector {
+        start: u32,
+        size: usize,
+        count: usize,
+    },
 }
 
 #[derive(Drop)]

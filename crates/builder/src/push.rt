@@ -6,7 +6,7 @@ ghost use Rattle.vectors.specs.Items.{item};
 use crate::builder::FlatBufferBuilder;
 use kinds::Kind;
 use store::allocator::Allocator;
-use vectors::value::{offset_stands, push_value, room_for_value};
+use vectors::value::{assert_offset_stands, push_value, room_for_value};
 use wire::refusal::Refusal;
 
 impl<S: Allocator> FlatBufferBuilder<S> {
@@ -48,9 +48,6 @@ impl<S: Allocator> FlatBufferBuilder<S> {
             return self.push_slot_always(slot, x);
         }
         self.inner.assert_slot(slot)?;
-        if !offset_stands(x.offset(), self.space.used()) {
-            return Err(Refusal::Offset);
-        }
-        Ok(())
+        assert_offset_stands(x.offset(), self.space.used())
     }
 }

@@ -30,7 +30,11 @@ impl<S: Allocator> FlatBufferBuilder<S> {
         self.inner.assert_not_nested()?;
         start_vector::<S, T>(&mut self.space, count)?;
         self.inner.track_min_align(T::alignment().max(4));
-        self.inner.nest = Open::Vector(self.space.used() as u32, T::size(), count);
+        self.inner.nest = Open::Vector {
+            start: self.space.used() as u32,
+            size: T::size(),
+            count,
+        };
         Ok(())
     }
 
@@ -54,7 +58,11 @@ fn ends_vector(nest: Open, count: usize, used: usize) -> bool
     ensures { (ls : List FieldLoc) → result ≡ ends_vector_lem count used (nest_of nest ls) }
 {
     match nest {
-        Open::Vector(start, size, n) => match n.checked_mul(size) {
+        Open::Vector {
+            start,
+            size,
+            count: n,
+        } => match n.checked_mul(size) {
             Some(bytes) => count == n && start as usize <= used && used - start as usize == bytes,
             None => false,
         },

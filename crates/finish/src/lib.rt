@@ -3,19 +3,19 @@
 
 ghost use Rattle.std.specs.Prelude.{◌≡◌, ◌+◌, ◌≤◌, true, cond, length, is_ok, if◌then◌else◌, Some, None};
 ghost use Rattle.model.specs.Finish.{finish_bytes, finish_tests, identifier_bytes, identifier_stands, prefix_bytes, rooted};
-ghost use Rattle.space.specs.Taken.{Placed, Prepended};
-ghost use Rattle.std.specs.Option.{option_map};
-ghost use Rattle.wire.specs.Answers.{decided, told, Asked};
+ghost use Rattle.finish.specs.Given.{given};
+ghost use Rattle.space.specs.Taken.{Placed};
+ghost use Rattle.vectors.specs.Written.{Wrote};
 
 use space::Space;
 use store::allocator::Allocator;
 use vectors::room::room_for;
-use vectors::value::offset_stands;
+use vectors::value::assert_offset_stands;
 use wire::refusal::Refusal;
 
 // The bytes of an identifier, none where there is none, or nothing where they are not four.
 pub fn identifier_part(identifier: Option<&[u8]>) -> Option<&[u8]>
-    ensures { option_map (λ x. x.now) result ≡ (if identifier_stands (option_map (λ x. x.now) identifier.entry) then Some (identifier_bytes (option_map (λ x. x.now) identifier.entry)) else None) }
+    ensures { given result ≡ (if identifier_stands (given identifier.entry) then Some (identifier_bytes (given identifier.entry)) else None) }
 {
     match identifier {
         None => Some(&[]),
@@ -58,13 +58,10 @@ pub fn finish<S: Allocator>(
     size_prefixed: bool,
     min_align: usize,
 ) -> Result<(), Refusal<S::Error>>
-    ensures answer { told result ≡ decided (finish_tests root (option_map (λ x. x.now) identifier.entry) size_prefixed (length space.old.taken) min_align space.old.limit) tt }
-    ensures space { Asked result (Prepended space.old space.new (is_ok result) (finish_bytes root (option_map (λ x. x.now) identifier.entry) size_prefixed (length space.old.taken) min_align)) (space.new ≡ space.old) }
+    ensures { Wrote space.old space.new result (finish_tests root (given identifier.entry) size_prefixed (length space.old.taken) min_align space.old.limit) tt (finish_bytes root (given identifier.entry) size_prefixed (length space.old.taken) min_align) }
 {
     let id = identifier_part(identifier).ok_or_else(|| Refusal::Identifier)?;
-    if !offset_stands(Some(root), space.used()) {
-        return Err(Refusal::Offset);
-    }
+    assert_offset_stands(Some(root), space.used())?;
     let prefix = if size_prefixed { 4 } else { 0 };
     let head = 4 + id.len() + prefix;
     let pad = room_for(space, head, min_align.max(4), 0)?;

@@ -41,7 +41,8 @@ pub trait Kind {
     fn follow(buf: &[u8], loc: usize) -> Option<Self::Inner>
         ensures { result ≡ meaning.reads buf.now loc };
 
-    // Numeric equality: a NaN equals nothing, and -0.0 equals 0.0.
+    // Numeric equality: a NaN equals nothing, and -0.0 equals 0.0. A method of its own, since `==` is known to be
+    // that only of values that the machine holds, which a bound does not say.
     fn equals(&self, other: &Self) -> bool
         ensures { result ≡ meaning.equal self.now other.now };
 }

@@ -52,7 +52,7 @@ impl<T> Kind for WIPOffset<T> {
     }
 
     fn push(&self, dst: &mut [u8], used: usize, from: usize) {
-        // the distance from its own bytes, in front of `used`, to its object
+        // The distance from its own bytes, in front of `used`, to its object; no sum passes a u128.
         let distance = (4 + used as u128).saturating_sub(self.value() as u128);
         copy_part(&distance.to_le_bytes()[..4], from, dst);
     }

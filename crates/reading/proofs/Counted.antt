@@ -9,19 +9,19 @@ use Rattle.reading.specs.declared.invalid.InvalidFlatbuffer.TheVariants.{RangeOu
 use Rattle.reading.specs.Shape.{Shape, Fields, Variants, element, string, vector, offsets, offset, skipped, table, end, field, union, unread, variant}
 use Rattle.reading.specs.Input.{saturated, saturated_product, u32_at}
 use Rattle.reading.specs.Reading.{accepted, Range, Reading, Walk, then, given, within, unless, raised, keeps, after, accept, refuse, aligned, ranged, spend, in_buffer, count_table, descend, ascend, signed, leads, enter, at_vtable, visit_table, vtable, vtable_len, slot_at, slot_read, absent, at_field, visit_field, follow, items, vector_range, each, element_at, visit_offsets, visit_string, text_of, terminated, lone_key, union_key, at_union, visit_union, reading, fields, variants}
-use Rattle.reading.proofs.Walks.{apart, then_accepted, both_accept, risen_accepted}
+use Rattle.reading.proofs.Walks.{then_accepted, both_accept, risen_accepted}
 use Rattle.reading.specs.Counts.{Counts, nothing, read, both, when_present, each_counts, slot_counts, union_counts, follow_counts, counts, fields_counts, variant_counts, Allows, from, total, EveryShapeCounts}
 
 unless_accepted : (x : Bool) (f : InvalidFlatbuffer) → unless x f ≡ accepted → x ≡ true
 unless_accepted true f e = refl
-unless_accepted false f e = let no : ⊥ = apart f [] e in elim no [ ]
+unless_accepted false f e = absurd cc
 
 keeps_means : (n by most : ℕ) → keeps n by most ≡ true → (n + by ≤ most) × (raised n by ≡ n + by)
 keeps_means n by most e = go (ltb (n + by) 18446744073709551616) e
   where
     go : (x : Bool) → cond x (leb (n + by) most) false ≡ true → (n + by ≤ most) × (cond x (n + by) n ≡ n + by)
     go true k = (leb-true (n + by) most k, refl)
-    go false k = let z : ◌≡◌ {A = ℕ} 0 1 = cc in let no : ⊥ = omega arith in elim no [ ]
+    go false k = absurd cc
 
 -- an accepted reading that ends at the depth d
 pub record Ends (o : VerifierOptions) (c : Counters) (n : Counts) (d : ℕ) (q : Reading) : Type 0 where
@@ -137,7 +137,7 @@ module _ (b : List ℕ) where
   accept_tells = record { ends = λ o c l e. record { allows = l; depth = refl; tables = omega arith; size = omega arith; ranges = refl } }
 
   refuse_tells : (g : InvalidFlatbuffer) (t : Counts) → Tells b same (refuse g) t
-  refuse_tells g t = record { ends = λ o c l e. let no : ⊥ = apart g [] e in elim no [ ] }
+  refuse_tells g t = record { ends = λ o c l e. absurd cc }
 
   within_tells : {w : Walk} {t : Counts} (d : TraceRecord) → Tells b same w t → Tells b same (within d w) t
   unfolding within
@@ -203,7 +203,7 @@ module _ (b : List ℕ) where
               size = v ∙ ap (λ (z : ℕ). c.apparent_size + z) m;
               ranges = omega arith;
             }
-        go o c l false i j = let no : ⊥ = apart (RangeOutOfBounds p (saturated p n)) [] j in elim no [ ]
+        go o c l false i j = absurd cc
 
     range_tells : (p n : ℕ) → Tells b same (ranged p n) (read n)
     range_tells p n = ranged_tells p n n (λ l. refl)

@@ -16,9 +16,6 @@ use Rattle.reading.proofs.Steps.{Steps, every_reading}
 abbrev Widens : List ℕ → Walk → Type 0
 Widens b w = (o o' : VerifierOptions) (c : Counters) → Wider o o' → stopped (w b o c).outcome ≡ false → w b o' c ≡ w b o c
 
-never : true ≡ false → ⊥
-never e = let z : ◌≡◌ {A = ℕ} 0 1 = cc in omega arith
-
 -- a counter that keeps to its limit keeps to a larger one
 keeps_wider : (n by most more : ℕ) → most ≤ more → keeps n by most ≡ true → keeps n by more ≡ true
 keeps_wider n by most more l e = go (ltb (n + by) 18446744073709551616) e
@@ -34,7 +31,7 @@ keeps_widens n by most more f i l e = go (keeps n by most) (keeps n by more) (ke
   where
     go : (x y : Bool) → (x ≡ true → y ≡ true) → stopped (unless x f) ≡ false → unless y f ≡ unless x f
     go true y k q = ap (λ (z : Bool). unless z f) (k refl)
-    go false y k q = let no : ⊥ = never (sym i ∙ q) in elim no [ ]
+    go false y k q = absurd cc
 
 module _ (b : List ℕ) where
   widens_then : (w w' : Walk) → Widens b w → Widens b w' → Widens b (then w w')

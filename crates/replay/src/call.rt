@@ -23,6 +23,7 @@ pub fn make_call<'b, 'w, S: Contiguous>(
 ) -> Result<Answer<'b>, Failure<S::Error>> {
     let builder = builder.ok_or(Fault::NoStore)?;
     let mut call = Call { builder, words };
+    // Matched as text, and here alone: an enum of the names would be matched a second time.
     match name {
         "push" => call.valued(Valued::Push),
         "push_slot" => {

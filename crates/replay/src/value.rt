@@ -52,7 +52,8 @@ pub trait Value: Kind {
     fn read(word: &str) -> Result<Self, Fault>;
 }
 
-// The kinds whose values stand as std reads them.
+// The kinds whose values stand as std reads them. Each has its line: no macro may write them, and a blanket impl of
+// `Value` over `FromStr` would conflict with those of offsets and structs.
 pub trait Integer: Kind + FromStr<Err = ParseIntError> {}
 
 impl Integer for u8 {}
@@ -77,6 +78,7 @@ impl<T: Integer> Value for T {
     }
 }
 
+// The floats are two, as the library's functions on their bits are.
 impl Value for f32 {
     // its bits, in hexadecimal
     fn read(word: &str) -> Result<f32, Fault> {

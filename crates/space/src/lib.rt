@@ -1,7 +1,7 @@
 // Space at the end of a store: what a builder has written so far, newest in front.
 #![tactic(auto)]
 
-ghost use Rattle.std.specs.Prelude.{◌≡◌, ◌+◌, ◌≤◌, min, true, false, [], length, drop, is_ok, if◌then◌else◌, nat_le, slice_index};
+ghost use Rattle.std.specs.Prelude.{◌≡◌, ◌+◌, ◌≤◌, min, true, false, [], ◌++◌, length, drop, is_ok, if◌then◌else◌, nat_le, slice_index};
 ghost use Rattle.wire.specs.Bytes.{raised, written, zeros};
 ghost use Rattle.space.specs.Taken.{Spaced, Placed, Prepended, Released};
 
@@ -9,7 +9,7 @@ use std::marker::Model;
 use store::allocator::{Allocator, Contiguous};
 use wire::range::inside;
 
-// The used space never passes this.
+// What is written in a space stops here: each call above it tests this before it writes.
 pub const MAX_SIZE: usize = 2147483647;
 
 // Zero bytes are written in runs of this length.
@@ -50,16 +50,20 @@ impl<S: Allocator> Space<S> {
         Space { allocator, used: 0 }
     }
 
-    // The store.
+    // The store: its list is the rest and then the used bytes.
     pub fn allocator(&self) -> &S
-        ensures { result.now ≡ self.now.allocator }
+        ensures store { result.now ≡ self.now.allocator }
+        ensures list { S.Allocator.list result.now ≡ self.now.rest ++ self.now.taken }
+        ensures limit { S.Allocator.limit result.now ≡ self.now.limit }
     {
         &self.allocator
     }
 
     // The store, given back.
     pub fn into_allocator(self) -> S
-        ensures { result ≡ self.allocator }
+        ensures store { result ≡ self.allocator }
+        ensures list { S.Allocator.list result ≡ self.rest ++ self.taken }
+        ensures limit { S.Allocator.limit result ≡ self.limit }
     {
         let Space { allocator, used: _ } = self;
         allocator
@@ -99,7 +103,7 @@ impl<S: Allocator> Space<S> {
         grow_beyond(&mut self.allocator, self.used, want)
     }
 
-    // Puts bytes in front of the used ones where the list has room for them; else says no.
+    // Puts bytes in front of the used ones where the list has room for them; else says no, as the store's `put` does.
     pub fn put_front(&mut self, bytes: &[u8]) -> bool
         ensures { Placed self.old self.new result bytes.now }
     {

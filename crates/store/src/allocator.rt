@@ -27,6 +27,7 @@ pub trait Allocator {
         ensures { result ≡ slice_get (list self.now) i };
 
     // Replaces the bytes from `start` on, where they all lie inside the list; else nothing is written.
+    // A bool says so, as of a set's `insert`: there is one way to fail, and nothing to tell of it.
     fn put(&mut self, start: usize, bytes: &[u8]) -> bool
         ensures value { result ≡ nat_le (start + length bytes.now) (length (list self.old)) }
         ensures list { list self.new ≡ (if result then written (list self.old) start bytes.now else list self.old) }

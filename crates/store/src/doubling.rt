@@ -7,7 +7,7 @@ ghost use Rattle.store.specs.Growth.{Grown};
 use crate::allocator::{Allocator, Contiguous};
 use wire::range::inside;
 
-// The list is the first `len` bytes of the slice.
+// The list is the first `len` bytes of the slice. The count stands beside it: the memory is the caller's.
 #[derive(Drop)]
 pub struct Doubling<'a> {
     bytes: &'a mut [u8],

@@ -11,7 +11,8 @@ const SIZE: usize = 16384;
 
 const STEP: usize = 256;
 
-// The list is the last `len` bytes of the array.
+// The list is the last `len` bytes of the array. The count stands beside it, since a list that grows at its front
+// in fixed memory is no vector.
 #[derive(Drop)]
 pub struct Still {
     bytes: [u8; SIZE],

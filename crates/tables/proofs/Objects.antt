@@ -4,16 +4,14 @@ use Rattle.std.specs.List.{list_all, enumerate_from, range_with_len}
 use Rattle.std.specs.Str.{bytes_eq}
 use Rattle.std.proofs.lemmas.Slice.Eq.{bytes_eq-Decides}
 use Rattle.std.proofs.lemmas.List.{drop-drop, drop_more}
-use Rattle.std.proofs.lemmas.Bool.{cond-true, cond-false}
+use Rattle.std.proofs.lemmas.List.FromFn.{get_or-enumerate_from, get_or-range_with_len, length-range_with_len, length-enumerate_from}
+use Rattle.std.proofs.lemmas.Bool.{cond-true, cond-false, false_from_ne_true}
+use Rattle.std.proofs.Math.Bool.{and_assoc}
 use Rattle.wire.specs.Bytes.{last}
 use Rattle.model.specs.Tables.{equal_object}
 
 not_same : (xs ys : List ℕ) → (xs ≡ ys → ⊥) → bytes_eq xs ys ≡ false
-not_same xs ys ne = not_yes (bytes_eq xs ys) (λ e. ne ((bytes_eq-Decides xs ys).0 e))
-  where
-    not_yes : (b : Bool) → (b ≡ true → ⊥) → b ≡ false
-    not_yes true h = absurd (h refl)
-    not_yes false h = refl
+not_same xs ys ne = false_from_ne_true (bytes_eq xs ys) (λ e. ne ((bytes_eq-Decides xs ys).0 e))
 
 -- too few bytes are left from the place p on
 pub bytes_short : (us bs : List ℕ) (p : ℕ) → length us - p < length bs → false ≡ bytes_eq (take (length bs) (drop p us)) bs
@@ -21,39 +19,43 @@ bytes_short us bs p h =
     let long : length (take (length bs) (drop p us)) ≡ min (length bs) (length us - p) = length-take (length bs) (drop p us) ∙ ap (min (length bs)) (length-drop p us) in
     sym (not_same (take (length bs) (drop p us)) bs (λ e. omega (arith, ap length e)))
 
--- each byte from the place n on is the one at its place, which is counted from p and k
-pub bytes_hold : (us bs : List ℕ) (p k n : ℕ) → n ≡ p + k → length bs ≤ length us - n
-    → list_all (λ q. eqb (get_or us (p + q.0) 0) q.1) (enumerate_from k bs) ≡ bytes_eq (take (length bs) (drop n us)) bs
-bytes_hold us [] p k n e h = refl
-bytes_hold us (b ∷ bs) p k n e h =
-    ap (λ (m : ℕ). eqb (get_or us m 0) b && list_all (λ q. eqb (get_or us (p + q.0) 0) q.1) (enumerate_from (k + 1) bs)) (sym e)
-    ∙ ap (λ t. eqb (get_or us n 0) b && t) (bytes_hold us bs p (k + 1) (n + 1) (omega arith) (omega arith))
+-- a test of each place from n on says whether the bytes stand there
+each_place : {X : Type 0} (P : X → Bool) (none : X) (xs : List X) (us bs : List ℕ) (n : ℕ) → length xs ≡ length bs → length bs ≤ length us - n
+    → ((j : ℕ) → j < length bs → P (get_or xs j none) ≡ eqb (get_or us (n + j) 0) (get_or bs j 0)) → list_all P xs ≡ bytes_eq (take (length bs) (drop n us)) bs
+each_place P none [] us [] n e h same = refl
+each_place P none [] us (b ∷ bs) n e h same = absurd (omega arith)
+each_place P none (x ∷ xs) us [] n e h same = absurd (omega arith)
+each_place P none (x ∷ xs) us (b ∷ bs) n e h same =
+    let first : n + 0 ≡ n = omega arith in
+    ap (λ t. t && list_all P xs) (same 0 (omega arith) ∙ ap (λ (m : ℕ). eqb (get_or us m 0) b) first)
+    ∙ ap (λ t. eqb (get_or us n 0) b && t) (each_place P none xs us bs (n + 1) (omega arith) (omega arith)
+    (λ j l. let next : n + suc j ≡ n + 1 + j = omega arith in same (suc j) (omega arith) ∙ ap (λ (m : ℕ). eqb (get_or us m 0) (get_or bs j 0)) next))
     ∙ ap (λ (ys : List ℕ). bytes_eq (take (length (b ∷ bs)) ys) (b ∷ bs)) (sym (drop_more us n 0 (omega arith)))
 
--- the same of bytes cs that bs has from its place k on
-pub range_holds : (us bs cs : List ℕ) (p k n : ℕ) → ((i j : ℕ) → i ≡ k + j → get_or bs i 0 ≡ get_or cs j 0) → n ≡ p + k → length cs ≤ length us - n
-    → list_all (λ i. eqb (get_or us (p + i) 0) (get_or bs i 0)) (range_with_len k (length cs)) ≡ bytes_eq (take (length cs) (drop n us)) cs
-range_holds us bs [] p k n at e h = refl
-range_holds us bs (c ∷ cs) p k n at e h =
-    let rest = range_holds us bs cs p (k + 1) (n + 1) (λ i j e'. at i (suc j) (omega arith)) (omega arith) (omega arith) in
-    ap (λ (m : ℕ). eqb (get_or us m 0) (get_or bs k 0) && list_all (λ i. eqb (get_or us (p + i) 0) (get_or bs i 0)) (range_with_len (k + 1) (length cs))) (sym e)
-    ∙ ap (λ (x : ℕ). eqb (get_or us n 0) x && list_all (λ i. eqb (get_or us (p + i) 0) (get_or bs i 0)) (range_with_len (k + 1) (length cs))) (at k 0 (omega arith))
-    ∙ ap (λ t. eqb (get_or us n 0) c && t) rest
-    ∙ ap (λ (ys : List ℕ). bytes_eq (take (length (c ∷ cs)) ys) (c ∷ cs)) (sym (drop_more us n 0 (omega arith)))
+-- the places of bytes that are counted, and of an index range
+pub bytes_hold : (us bs : List ℕ) (n : ℕ) → length bs ≤ length us - n
+    → list_all (λ q. eqb (get_or us (n + q.0) 0) q.1) (enumerate_from 0 bs) ≡ bytes_eq (take (length bs) (drop n us)) bs
+bytes_hold us bs n h =
+    each_place _ (0, 0) (enumerate_from 0 bs) us bs n (length-enumerate_from 0 bs) h
+    (λ j l. ap (λ (q : ℕ × ℕ). eqb (get_or us (n + q.0) 0) q.1) (get_or-enumerate_from 0 bs j (0, 0) l)
+    ∙ ap (λ (i : ℕ). eqb (get_or us (n + i) 0) (get_or bs j 0)) (omega arith))
+
+pub range_holds : (us bs : List ℕ) (n : ℕ) → length bs ≤ length us - n
+    → list_all (λ i. eqb (get_or us (n + i) 0) (get_or bs i 0)) (range_with_len 0 (length bs)) ≡ bytes_eq (take (length bs) (drop n us)) bs
+range_holds us bs n h =
+    each_place _ 0 (range_with_len 0 (length bs)) us bs n (length-range_with_len 0 (length bs)) h
+    (λ j l. let e : get_or (range_with_len 0 (length bs)) j 0 ≡ j = omega (arith, get_or-range_with_len 0 (length bs) j 0 l) in
+    ap (λ (i : ℕ). eqb (get_or us (n + i) 0) (get_or bs i 0)) e)
 
 -- the place of the object at an offset
 pub object_at : (us : List ℕ) (o p : ℕ) → p ≡ length us - o → drop p us ≡ last o us
 object_at us o p e = ap (λ (k : ℕ). drop k us) e
 
 -- a string: its length as a word, then its bytes
-and_group : (a b c : Bool) → (a && (b && c)) ≡ ((a && b) && c)
-and_group true b c = refl
-and_group false b c = refl
-
 same_append : (hs bs ys : List ℕ) → bytes_eq (take (length (hs ++ bs)) ys) (hs ++ bs) ≡ (bytes_eq (take (length hs) ys) hs && bytes_eq (take (length bs) (drop (length hs) ys)) bs)
 same_append [] bs ys = refl
 same_append (x ∷ hs) bs [] = refl
-same_append (x ∷ hs) bs (y ∷ ys) = ap (λ t. eqb y x && t) (same_append hs bs ys) ∙ and_group (eqb y x) (bytes_eq (take (length hs) ys) hs) (bytes_eq (take (length bs) (drop (length hs) ys)) bs)
+same_append (x ∷ hs) bs (y ∷ ys) = ap (λ t. eqb y x && t) (same_append hs bs ys) ∙ sym (and_assoc (eqb y x) (bytes_eq (take (length hs) ys) hs) (bytes_eq (take (length bs) (drop (length hs) ys)) bs))
 
 module _ (us hs bs : List ℕ) (o p : ℕ) (at : p ≡ length us - o) where
   pub string_parts : (a b : Bool) → a ≡ bytes_eq (take (length hs) (drop p us)) hs → b ≡ bytes_eq (take (length bs) (drop (p + length hs) us)) bs

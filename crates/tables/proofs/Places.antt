@@ -1,6 +1,6 @@
 -- Laws of `place_of`, `record_slot` and `lookup`.
-use Rattle.std.proofs.Common.{◌≡◌, ℕ, zero, suc, ◌+◌, ◌-◌, ◌<◌, ◌≤◌, Bool, true, false, cond, not, ◌&&◌, eqb, List, [], ◌∷◌, ◌++◌, length, get_or, take, set, is_some, Some, None, Option, Ok, Err, Result, is_ok, IsOk, OnOk, OnErr, ◌↔◌, sym, refl, ap, ◌∙◌, subst, ⊎_elim, arith, length-set}
-use Rattle.std.specs.List.{position, refill}
+use Rattle.std.proofs.Common.{◌≡◌, ℕ, zero, suc, ◌+◌, ◌-◌, ◌<◌, ◌≤◌, Bool, true, false, cond, not, ◌&&◌, eqb, List, [], ◌∷◌, ◌++◌, length, get_or, take, set, is_some, Some, None, Option, option_map, MatchOption, Bor, Ok, Err, Result, is_ok, IsOk, OnOk, OnErr, ◌↔◌, sym, refl, ap, ◌∙◌, subst, ⊎_elim, arith, length-set}
+use Rattle.std.specs.List.{find, position, refill}
 use Rattle.arrayvec.specs.ArrayVec.{ArrayVec}
 use Rattle.std.proofs.lemmas.Bool.{eqb-true, eq-eqb, ne_eqb, cases_lt, cond-true, cond-false, le-leb, lt-leb, false≢true}
 use Rattle.std.proofs.lemmas.List.{take_all, take-append-le, length_push, get_or_append_left, get_or_push}
@@ -106,8 +106,23 @@ absent rs s e =
     let least : length rs ≤ place_of rs s = grind (arith, common_steps) in
     omega arith
 
-pub distance_missing : (rs : List FieldLoc) (s t : ℕ) → search_for rs s ≡ None → 0 ≡ distance t (lookup s rs)
-distance_missing rs s t e = ap (distance t) (sym (lookup_missing rs s (absent rs s e)))
+-- the same where the search lends the record
+lookup_find : (rs : List FieldLoc) (s : ℕ) → option_map (λ (r : FieldLoc). r.off) (find (λ r. eqb s r.id) rs) ≡ lookup s rs
+lookup_find [] s = refl
+lookup_find (r ∷ rs) s = by (eqb s r.id) (lookup_find rs s)
+  where
+    by : (b : Bool) → option_map (λ (r : FieldLoc). r.off) (find (λ r. eqb s r.id) rs) ≡ lookup s rs
+        → option_map (λ (r : FieldLoc). r.off) (cond b (Some r) (find (λ r. eqb s r.id) rs)) ≡ cond b (Some r.off) (lookup s rs)
+    by true e = refl
+    by false e = e
+
+pub distance_of : (rs : List FieldLoc) (s t d : ℕ) (o : Option (Bor FieldLoc)) (P : Bor FieldLoc → Type 0) → option_map (λ (r : Bor FieldLoc). r.now) o ≡ find (λ r. eqb s r.id) rs
+    → MatchOption o (d ≡ 0) P → ((r : Bor FieldLoc) → P r → d ≡ t - r.now.off) → d ≡ distance t (lookup s rs)
+distance_of rs s t d o P found m is = by o m ∙ ap (λ x. distance t (option_map (λ (r : FieldLoc). r.off) x)) found ∙ ap (distance t) (lookup_find rs s)
+  where
+    by : (q : Option (Bor FieldLoc)) → MatchOption q (d ≡ 0) P → d ≡ distance t (option_map (λ (r : FieldLoc). r.off) (option_map (λ (r : Bor FieldLoc). r.now) q))
+    by None e = e
+    by (Some r) p = is r p
 
 -- a record is found at i; xs are the records as they are lent
 module _ (rs xs : List FieldLoc) (s i : ℕ) (same : xs ≡ rs) (found : search_for rs s ≡ Some i) where
@@ -123,9 +138,6 @@ module _ (rs xs : List FieldLoc) (s i : ℕ) (same : xs ≡ rs) (found : search_
   has : lookup s rs ≡ Some (get_or rs i none).off
   has = let l = inside in let e = at in lookup_found rs s (omega arith) ∙ ap (λ (k : ℕ). Some (get_or rs k none).off) e
 
-  pub distance_found : (t : ℕ) → t - (get_or xs i none).off ≡ distance t (lookup s rs)
-  distance_found t = ap (λ (ys : List FieldLoc). t - (get_or ys i none).off) same ∙ ap (distance t) (sym has)
-
   pub allowed_old : slot_stands s ≡ true → true ≡ (slot_stands s && not (not (is_some (lookup s rs)) && no_room (length rs)))
   allowed_old h = sym (ap (λ b. b && not (not (is_some (lookup s rs)) && no_room (length rs))) h ∙ ap (λ o. not (not (is_some o) && no_room (length rs))) has)
 
@@ -140,41 +152,36 @@ module _ (rs xs : List FieldLoc) (s i : ℕ) (same : xs ≡ rs) (found : search_
         ap (λ ys. refill (length rs) rs (set ys i (record { off = o; id = (get_or ys i none).id }))) same
         ∙ take-append-le (length rs) _ _ (omega arith) ∙ take_all (length rs) _ (omega arith)
 
-    pub moved_recorded : moved ≡ record_slot s o rs
-    moved_recorded =
+    pub moved_kept : Once rs → Slots rs → Once moved × Slots moved × (moved ≡ record_slot s o rs) × (length moved ≡ length rs)
+    moved_kept once slots =
         let l = inside in
-        let e = at in
-        set_at ∙ ap (λ k. set rs i (record { off = o; id = k })) here ∙ ap (λ k. set rs k (record { off = o; id = s })) (sym e) ∙ sym (recorded_old rs s o (omega arith))
-
-    pub moved_once : Once rs → Once moved
-    moved_once h = subst Once (sym set_at) (once_set rs i _ refl h)
-
-    pub moved_slots : Slots rs → Slots moved
-    moved_slots h = subst Slots (sym set_at) (slots_set rs i _ refl h)
+        let e = at in (
+          subst Once (sym set_at) (once_set rs i _ refl once),
+          subst Slots (sym set_at) (slots_set rs i _ refl slots),
+          set_at ∙ ap (λ k. set rs i (record { off = o; id = k })) here ∙ ap (λ k. set rs k (record { off = o; id = s })) (sym e) ∙ sym (recorded_old rs s o (omega arith)),
+          ap length set_at ∙ length-set rs i _,
+        )
 
 -- no record is found, and one more is pushed where there is room
-module _ {A E : Type 0} (v w : ArrayVec FieldLoc) (s o : ℕ) (r : Result A E) (missing : search_for v.items s ≡ None)
-    (ok : OnOk r (w.items ≡ v.items ++ record { off = o; id = s } ∷ [])) (err : OnErr r (w ≡ v)) where
-  pub pushed_recorded : w.items ≡ cond (is_ok r) (record_slot s o v.items) v.items
-  pushed_recorded = by r ok err
-    where
-      by : (q : Result A E) → OnOk q (w.items ≡ v.items ++ record { off = o; id = s } ∷ []) → OnErr q (w ≡ v) → w.items ≡ cond (is_ok q) (record_slot s o v.items) v.items
-      by (Ok x) k e = k ∙ sym (recorded_new v.items s o (absent v.items s missing))
-      by (Err x) k e = ap (λ (u : ArrayVec FieldLoc). u.items) e
+pub pushed_kept : {A E : Type 0} (v w : ArrayVec FieldLoc) (s o : ℕ) (r : Result A E) → search_for v.items s ≡ None → slot_stands s ≡ true → Once v.items → Slots v.items
+    → OnOk r (w.items ≡ v.items ++ record { off = o; id = s } ∷ []) → OnErr r (w ≡ v) → Once w.items × Slots w.items × (w.items ≡ cond (is_ok r) (record_slot s o v.items) v.items)
+pushed_kept v w s o (Ok x) missing stands once slots ok err =
+    let new = absent v.items s missing in (
+      subst Once (sym ok) (once_new v.items _ new once),
+      subst Slots (sym ok) (slots_new v.items _ stands slots),
+      ok ∙ sym (recorded_new v.items s o new),
+    )
+pushed_kept v w s o (Err x) missing stands once slots ok err = (
+  subst (λ (u : ArrayVec FieldLoc). Once u.items) (sym err) once,
+  subst (λ (u : ArrayVec FieldLoc). Slots u.items) (sym err) slots,
+  ap (λ (u : ArrayVec FieldLoc). u.items) err,
+)
 
-  pub pushed_once : Once v.items → Once w.items
-  pushed_once h = by r ok err
-    where
-      by : (q : Result A E) → OnOk q (w.items ≡ v.items ++ record { off = o; id = s } ∷ []) → OnErr q (w ≡ v) → Once w.items
-      by (Ok x) k e = subst Once (sym k) (once_new v.items _ (absent v.items s missing) h)
-      by (Err x) k e = subst (λ (u : ArrayVec FieldLoc). Once u.items) (sym e) h
-
-  pub pushed_slots : slot_stands s ≡ true → Slots v.items → Slots w.items
-  pushed_slots stands h = by r ok err
-    where
-      by : (q : Result A E) → OnOk q (w.items ≡ v.items ++ record { off = o; id = s } ∷ []) → OnErr q (w ≡ v) → Slots w.items
-      by (Ok x) k e = subst Slots (sym k) (slots_new v.items _ stands h)
-      by (Err x) k e = subst (λ (u : ArrayVec FieldLoc). Slots u.items) (sym e) h
+pub pushed_few : {A E : Type 0} (v w : ArrayVec FieldLoc) (x : FieldLoc) (r : Result A E) → length v.items ≤ 256 → IsOk r ↔ (length v.items < 256)
+    → OnOk r (w.items ≡ v.items ++ x ∷ []) → OnErr r (w ≡ v) → length w.items ≤ 256
+pushed_few v w x (Ok y) few room ok err =
+    let l = room.0 refl in omega (arith, ap length ok, length_push v.items x)
+pushed_few v w x (Err y) few room ok err = omega (arith, ap (λ (u : ArrayVec FieldLoc). length u.items) err)
 
 pub allowed_new : {A E : Type 0} (rs : List FieldLoc) (s : ℕ) (r : Result A E) → search_for rs s ≡ None → slot_stands s ≡ true → IsOk r ↔ (length rs < 256)
     → is_ok r ≡ (slot_stands s && not (not (is_some (lookup s rs)) && no_room (length rs)))

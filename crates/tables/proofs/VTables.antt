@@ -16,12 +16,12 @@ use Rattle.tables.proofs.Places.{lookup_before}
 
 -- ---- its length
 
-length_push : (rs : List FieldLoc) (r : FieldLoc) → vtable_length (rs ++ r ∷ []) ≡ max (vtable_length rs) (r.id + 2)
-length_push [] r = omega arith
-length_push (x ∷ rs) r = omega (arith, length_push rs r)
+vtable_length_push : (rs : List FieldLoc) (r : FieldLoc) → vtable_length (rs ++ r ∷ []) ≡ max (vtable_length rs) (r.id + 2)
+vtable_length_push [] r = omega arith
+vtable_length_push (x ∷ rs) r = omega (arith, vtable_length_push rs r)
 
 pub length_more : (xs : List FieldLoc) (i : ℕ) → i < length xs → vtable_length (take (i + 1) xs) ≡ max (vtable_length (take i xs)) ((get_or xs i none).id + 2)
-length_more xs i h = ap vtable_length (take_more xs i none h) ∙ length_push (take i xs) (get_or xs i none)
+length_more xs i h = ap vtable_length (take_more xs i none h) ∙ vtable_length_push (take i xs) (get_or xs i none)
 
 slot_parts : (s : ℕ) → slot_stands s ≡ true → (s % 2 ≡ 0) × (4 ≤ s) × (s ≤ 65532)
 slot_parts s h =

@@ -1,4 +1,5 @@
 // Where the values of the open table lie.
+ghost use Rattle.std.specs.Prelude.{◌≤◌, length};
 ghost use Rattle.tables.specs.Records.{Once, Slots};
 
 use arrayvec::ArrayVec;
@@ -12,6 +13,7 @@ pub const SLOTS: usize = 256;
 #[derive(Drop)]
 pub struct FieldLocs {
     pub(crate) items: ArrayVec<FieldLoc, SLOTS>,
+    ghost few: { length items.items ≤ 256 },
     ghost once: { Once items.items },
     ghost slots: { Slots items.items },
 }

@@ -1,7 +1,7 @@
 // Room for bytes that are aligned, in front of the used ones.
-ghost use Rattle.std.specs.Prelude.{◌≡◌, ◌+◌, length, is_ok, if◌then◌else◌, Some, None, nat_lt};
-ghost use Rattle.space.specs.Taken.{Spaced};
-ghost use Rattle.wire.specs.Answers.{decided, space_tests, told, Asked};
+ghost use Rattle.std.specs.Prelude.{◌≡◌, ◌+◌, length, if◌then◌else◌, Some, None, nat_lt};
+ghost use Rattle.vectors.specs.Written.{Roomed};
+ghost use Rattle.wire.specs.Answers.{space_tests};
 ghost use Rattle.wire.specs.Layouts.{padding};
 
 use space::{MAX_SIZE, Space};
@@ -28,8 +28,7 @@ pub fn room_for<S: Allocator>(
     alignment: usize,
     head: usize,
 ) -> Result<usize, Refusal<S::Error>>
-    ensures answer { told result ≡ decided (space_tests (length space.old.taken + padding (length space.old.taken + size) alignment + size + head) space.old.limit) (padding (length space.old.taken + size) alignment) }
-    ensures space { Asked result (Spaced space.old space.new (is_ok result) (padding (length space.old.taken + size) alignment + size + head)) (space.new ≡ space.old) }
+    ensures { Roomed space.old space.new result (space_tests (length space.old.taken + padding (length space.old.taken + size) alignment + size + head) space.old.limit) (padding (length space.old.taken + size) alignment) (padding (length space.old.taken + size) alignment + size + head) }
 {
     // not `ok_or`, which asks that the store's error can be dropped
     let pad = padding_for(space.used(), size, alignment, head).ok_or_else(|| Refusal::TooLong)?;

@@ -1,7 +1,7 @@
 // Strings: bytes with a count before and a zero byte behind them.
-ghost use Rattle.std.specs.Prelude.{◌≡◌, ◌+◌, length, is_ok};
-ghost use Rattle.space.specs.Taken.{Prepended, Spaced};
-ghost use Rattle.wire.specs.Answers.{decided, string_tests, told, Asked};
+ghost use Rattle.std.specs.Prelude.{◌+◌, length};
+ghost use Rattle.vectors.specs.Written.{Roomed, Wrote};
+ghost use Rattle.wire.specs.Answers.{string_tests};
 ghost use Rattle.wire.specs.Layouts.{string_object_bytes, string_padding, string_space};
 
 use crate::room::room_for;
@@ -14,8 +14,7 @@ pub fn room_for_string<S: Allocator>(
     space: &mut Space<S>,
     text: &[u8],
 ) -> Result<usize, Refusal<S::Error>>
-    ensures answer { told result ≡ decided (string_tests text.now (length space.old.taken) space.old.limit) (string_padding (length space.old.taken) (length text.now)) }
-    ensures space { Asked result (Spaced space.old space.new (is_ok result) (string_padding (length space.old.taken) (length text.now) + length text.now + 5)) (space.new ≡ space.old) }
+    ensures { Roomed space.old space.new result (string_tests text.now (length space.old.taken) space.old.limit) (string_padding (length space.old.taken) (length text.now)) (string_padding (length space.old.taken) (length text.now) + length text.now + 5) }
 {
     room_for(space, text.len() + 1, 4, 4)
 }
@@ -25,8 +24,7 @@ pub fn create_byte_string<S: Allocator>(
     space: &mut Space<S>,
     text: &[u8],
 ) -> Result<u32, Refusal<S::Error>>
-    ensures answer { told result ≡ decided (string_tests text.now (length space.old.taken) space.old.limit) (string_space (length space.old.taken) (length text.now)) }
-    ensures space { Asked result (Prepended space.old space.new (is_ok result) (string_object_bytes text.now (length space.old.taken))) (space.new ≡ space.old) }
+    ensures { Wrote space.old space.new result (string_tests text.now (length space.old.taken) space.old.limit) (string_space (length space.old.taken) (length text.now)) (string_object_bytes text.now (length space.old.taken)) }
 {
     let pad = room_for_string(space, text)?;
     let _ = space.put_zeros(pad + 1);

@@ -1,10 +1,12 @@
 // One value in front of the used bytes.
-ghost use Rattle.std.specs.Prelude.{◌≡◌, ◌+◌, ◌≤◌, true, T as True, length, take, drop, is_ok};
-ghost use Rattle.space.specs.Taken.{Placed, Prepended, Spaced};
+ghost use Rattle.std.specs.Prelude.{◌≡◌, ◌+◌, ◌≤◌, true, T as True, length, take, drop, is_ok, if◌then◌else◌, Ok, Err};
+ghost use Rattle.space.specs.Taken.{Placed};
 ghost use Rattle.vectors.specs.Items.{item};
-ghost use Rattle.wire.specs.Answers.{decided, push_tests, told, Asked};
+ghost use Rattle.vectors.specs.Written.{Roomed, Wrote};
+ghost use Rattle.wire.specs.Answers.{push_tests};
 ghost use Rattle.wire.specs.Kind.{stands};
 ghost use Rattle.wire.specs.Layouts.{push_padding, pushed_bytes, pushed_offset};
+ghost use Rattle.wire.specs.declared.refusal.Refusal.TheVariants.{Offset};
 
 use crate::room::room_for;
 use kinds::Kind;
@@ -19,10 +21,21 @@ pub fn offset_stands(offset: Option<u32>, used: usize) -> bool
     offset.is_none_or(|o| 0 < o && o as usize <= used)
 }
 
+// Refuses an offset that leads to no object in the used space.
+pub fn assert_offset_stands<E>(offset: Option<u32>, used: usize) -> Result<(), Refusal<E>>
+    ensures { result ≡ (if stands offset used then Ok tt else Err Offset) }
+{
+    if offset_stands(offset, used) {
+        Ok(())
+    } else {
+        Err(Refusal::Offset)
+    }
+}
+
 // A value is written in parts of at most this many bytes.
 const PART: usize = 8;
 
-// Puts a value's bytes in front of the used ones where the list has room for them; else says no.
+// Puts a value's bytes in front of the used ones where the list has room for them; else says no, as `put_front` does.
 pub fn put_value<S: Allocator, T: Kind>(space: &mut Space<S>, x: &T) -> bool
     ensures placed { Placed space.old space.new result (T.Kind.meaning.bytes x.now (length space.old.taken)) }
     ensures fits { result ≡ true → True (T.Kind.meaning.fits x.now) }
@@ -53,12 +66,9 @@ pub fn room_for_value<S: Allocator, T: Kind>(
     space: &mut Space<S>,
     x: &T,
 ) -> Result<usize, Refusal<S::Error>>
-    ensures answer { told result ≡ decided (push_tests (item T.Kind x.now) (length space.old.taken) space.old.limit) (push_padding (item T.Kind x.now) (length space.old.taken)) }
-    ensures space { Asked result (Spaced space.old space.new (is_ok result) (push_padding (item T.Kind x.now) (length space.old.taken) + T.Kind.meaning.size)) (space.new ≡ space.old) }
+    ensures { Roomed space.old space.new result (push_tests (item T.Kind x.now) (length space.old.taken) space.old.limit) (push_padding (item T.Kind x.now) (length space.old.taken)) (push_padding (item T.Kind x.now) (length space.old.taken) + T.Kind.meaning.size) }
 {
-    if !offset_stands(x.offset(), space.used()) {
-        return Err(Refusal::Offset);
-    }
+    assert_offset_stands(x.offset(), space.used())?;
     room_for(space, T::size(), T::alignment(), 0)
 }
 
@@ -67,8 +77,7 @@ pub fn push_value<S: Allocator, T: Kind>(
     space: &mut Space<S>,
     x: &T,
 ) -> Result<u32, Refusal<S::Error>>
-    ensures answer { told result ≡ decided (push_tests (item T.Kind x.now) (length space.old.taken) space.old.limit) (pushed_offset (item T.Kind x.now) (length space.old.taken)) }
-    ensures space { Asked result (Prepended space.old space.new (is_ok result) (pushed_bytes (item T.Kind x.now) (length space.old.taken))) (space.new ≡ space.old) }
+    ensures wrote { Wrote space.old space.new result (push_tests (item T.Kind x.now) (length space.old.taken) space.old.limit) (pushed_offset (item T.Kind x.now) (length space.old.taken)) (pushed_bytes (item T.Kind x.now) (length space.old.taken)) }
     ensures fits { is_ok result ≡ true → True (T.Kind.meaning.fits x.now) }
 {
     let pad = room_for_value(space, x)?;

@@ -1,8 +1,9 @@
 // Elements one behind the other, of any kind.
 ghost use Rattle.std.specs.Prelude.{◌≡◌, ◌+◌, ◌*◌, ◌<◌, ◌≤◌, true, map, length, is_ok, Some, Ok, slice_index_or};
-ghost use Rattle.space.specs.Taken.{Placed, Prepended, Spaced};
+ghost use Rattle.space.specs.Taken.{Placed};
 ghost use Rattle.vectors.specs.Items.{item, item_layout, ItemsFit, ItemsReadBack};
-ghost use Rattle.wire.specs.Answers.{decided, space_tests, start_vector_tests, told, vector_tests, Asked};
+ghost use Rattle.vectors.specs.Written.{Roomed, Wrote};
+ghost use Rattle.wire.specs.Answers.{space_tests, start_vector_tests, vector_tests};
 ghost use Rattle.wire.specs.Bytes.{zeros};
 ghost use Rattle.wire.specs.Layouts.{all_stand, element, row, vector_bytes, vector_offset, vector_padding};
 ghost use Rattle.wire.specs.Words.{le};
@@ -37,8 +38,7 @@ fn room_for_vector<S: Allocator, T: Kind>(
     space: &mut Space<S>,
     items: &[T],
 ) -> Result<usize, Refusal<S::Error>>
-    ensures answer { told result ≡ decided (vector_tests (item_layout T.Kind) (map (item T.Kind) items.now) (length space.old.taken) space.old.limit) (vector_padding (length space.old.taken) (length items.now * T.Kind.meaning.size) T.Kind.meaning.alignment) }
-    ensures space { Asked result (Spaced space.old space.new (is_ok result) (vector_padding (length space.old.taken) (length items.now * T.Kind.meaning.size) T.Kind.meaning.alignment + length items.now * T.Kind.meaning.size + 4)) (space.new ≡ space.old) }
+    ensures { Roomed space.old space.new result (vector_tests (item_layout T.Kind) (map (item T.Kind) items.now) (length space.old.taken) space.old.limit) (vector_padding (length space.old.taken) (length items.now * T.Kind.meaning.size) T.Kind.meaning.alignment) (vector_padding (length space.old.taken) (length items.now * T.Kind.meaning.size) T.Kind.meaning.alignment + length items.now * T.Kind.meaning.size + 4) }
 {
     if !all_offsets_stand(items, space.used()) {
         return Err(Refusal::Offset);
@@ -53,8 +53,7 @@ pub fn create_vector<S: Allocator, T: Kind>(
     space: &mut Space<S>,
     items: &[T],
 ) -> Result<u32, Refusal<S::Error>>
-    ensures answer { told result ≡ decided (vector_tests (item_layout T.Kind) (map (item T.Kind) items.now) (length space.old.taken) space.old.limit) (vector_offset (item_layout T.Kind) (map (item T.Kind) items.now) (length space.old.taken)) }
-    ensures space { Asked result (Prepended space.old space.new (is_ok result) (vector_bytes (item_layout T.Kind) (map (item T.Kind) items.now) (length space.old.taken))) (space.new ≡ space.old) }
+    ensures wrote { Wrote space.old space.new result (vector_tests (item_layout T.Kind) (map (item T.Kind) items.now) (length space.old.taken) space.old.limit) (vector_offset (item_layout T.Kind) (map (item T.Kind) items.now) (length space.old.taken)) (vector_bytes (item_layout T.Kind) (map (item T.Kind) items.now) (length space.old.taken)) }
     ensures fit { is_ok result ≡ true → ItemsFit T.Kind items.now }
 {
     let pad = room_for_vector(space, items)?;
@@ -69,8 +68,7 @@ pub fn start_vector<S: Allocator, T: Kind>(
     space: &mut Space<S>,
     count: usize,
 ) -> Result<(), Refusal<S::Error>>
-    ensures answer { told result ≡ decided (start_vector_tests (item_layout T.Kind) count (length space.old.taken) space.old.limit) tt }
-    ensures space { Asked result (Prepended space.old space.new (is_ok result) (zeros (vector_padding (length space.old.taken) (count * T.Kind.meaning.size) T.Kind.meaning.alignment))) (space.new ≡ space.old) }
+    ensures { Wrote space.old space.new result (start_vector_tests (item_layout T.Kind) count (length space.old.taken) space.old.limit) tt (zeros (vector_padding (length space.old.taken) (count * T.Kind.meaning.size) T.Kind.meaning.alignment)) }
 {
     // a product that no number holds is too long as well
     let size = count.saturating_mul(T::size());
@@ -85,8 +83,7 @@ pub fn end_vector<S: Allocator>(
     space: &mut Space<S>,
     count: usize,
 ) -> Result<u32, Refusal<S::Error>>
-    ensures answer { told result ≡ decided (space_tests (length space.old.taken + 4) space.old.limit) (length space.old.taken + 4) }
-    ensures space { Asked result (Prepended space.old space.new (is_ok result) (le 4 count)) (space.new ≡ space.old) }
+    ensures { Wrote space.old space.new result (space_tests (length space.old.taken + 4) space.old.limit) (length space.old.taken + 4) (le 4 count) }
 {
     if space.used() > MAX_SIZE - 4 {
         return Err(Refusal::TooLong);

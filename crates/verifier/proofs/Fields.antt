@@ -6,7 +6,7 @@ use Rattle.reading.specs.Reading.{Walk, ascend, fields, given, reading, slot_at,
 use Rattle.reading.specs.Shape.{Fields, Shape, Variants, end, field, table, union}
 use Rattle.verifier.specs.declared.verifier.TableVerifier.{TableVerifier}
 use Rattle.verifier.specs.declared.verifier.Verifier.{Verifier}
-use Rattle.verifier.specs.Told.{Seen, Told, bytes, done, run, table_of}
+use Rattle.verifier.specs.Told.{Seen, Told, bytes, done, field_visit, run, table_of, union_visit}
 use Rattle.verifier.proofs.Walks.{seen_got, seen_told, told_exit, told_is, told_result, told_then}
 
 -- Another walk that reads the same there.
@@ -19,17 +19,11 @@ told_run {x = x} {v = v} e h = record {
   kept = h.kept;
 }
 
-abbrev Visited : TableVerifier → ℕ → Bool → (ℕ → Walk) → Walk
-Visited tb s required w = visit_field_of tb.pos tb.vtable tb.vtable_len s required w
-
-abbrev Joined : TableVerifier → ℕ → ℕ → Bool → (ℕ → ℕ → Walk) → Walk
-Joined tb k s required w = visit_union_of tb.pos tb.vtable tb.vtable_len k s required w
-
-field_same : (p s : ℕ) (required : Bool) (w : ℕ → Walk) (v : Verifier) → run (Visited (table_of (bytes v) p) s required w) v ≡ run (visit_field p s required w) v
+field_same : (p s : ℕ) (required : Bool) (w : ℕ → Walk) (v : Verifier) → run (field_visit (table_of (bytes v) p) s required w) v ≡ run (visit_field p s required w) v
 unfolding visit_field visit_field_of then given slot_read slot_at
 field_same p s required w v = refl
 
-union_same : (p k s : ℕ) (required : Bool) (w : ℕ → ℕ → Walk) (v : Verifier) → run (Joined (table_of (bytes v) p) k s required w) v ≡ run (visit_union p k s required w) v
+union_same : (p k s : ℕ) (required : Bool) (w : ℕ → ℕ → Walk) (v : Verifier) → run (union_visit (table_of (bytes v) p) k s required w) v ≡ run (visit_union p k s required w) v
 unfolding visit_union visit_union_of then given slot_read slot_at
 union_same p k s required w v = refl
 
@@ -61,9 +55,9 @@ module _ (fs : Fields) {all : Fields} {sh : Shape} {p : ℕ} {tb : TableVerifier
   breaks f r e i = l.rest r v₂ (told_is whole (told_exit (fields fs p) done r i (told_result (sym e) h)))
 
 module _ {fs : Fields} {sh : Shape} {p : ℕ} {tb : TableVerifier} {u v v₂ : Verifier} {r' : Result (Unit {0}) InvalidFlatbuffer} where
-  module _ {s : ℕ} {required : Bool} {part : Shape} (l : Left (field s required part fs) sh p tb u v) (h : Told (Visited tb s required (reading part)) done r' v v₂) where
+  module _ {s : ℕ} {required : Bool} {part : Shape} (l : Left (field s required part fs) sh p tb u v) (h : Told (field_visit tb s required (reading part)) done r' v v₂) where
     field_told : Told (visit_field p s required (reading part)) done r' v v₂
-    field_told = told_run (ap (λ z. run (Visited z s required (reading part)) v) l.here ∙ field_same p s required (reading part) v) h
+    field_told = told_run (ap (λ z. run (field_visit z s required (reading part)) v) l.here ∙ field_same p s required (reading part) v) h
 
     pub field_goes : r' ≡ Ok tt → Left fs sh p tb u v₂
     unfolding reading
@@ -73,9 +67,9 @@ module _ {fs : Fields} {sh : Shape} {p : ℕ} {tb : TableVerifier} {u v v₂ : V
     unfolding reading
     field_breaks f r e i = breaks fs l refl field_told f r e i
 
-  module _ {k s : ℕ} {required : Bool} {vs : Variants} (l : Left (union k s required vs fs) sh p tb u v) (h : Told (Joined tb k s required (variants vs)) done r' v v₂) where
+  module _ {k s : ℕ} {required : Bool} {vs : Variants} (l : Left (union k s required vs fs) sh p tb u v) (h : Told (union_visit tb k s required (variants vs)) done r' v v₂) where
     union_told : Told (visit_union p k s required (variants vs)) done r' v v₂
-    union_told = told_run (ap (λ z. run (Joined z k s required (variants vs)) v) l.here ∙ union_same p k s required (variants vs) v) h
+    union_told = told_run (ap (λ z. run (union_visit z k s required (variants vs)) v) l.here ∙ union_same p k s required (variants vs) v) h
 
     pub union_goes : r' ≡ Ok tt → Left fs sh p tb u v₂
     unfolding reading

@@ -1,8 +1,9 @@
 -- How the walks of calls in a row join.
-use Rattle.std.proofs.Common.{◌≡◌, ℕ, ◌<◌, ◌≤◌, Bool, true, false, cond, List, [], ◌∷◌, ◌++◌, length, set, IsErrAnd, Ok, Err, Result, sym, refl, ap, ◌∙◌, subst, append-nil, arith}
+use Rattle.std.proofs.Common.{◌≡◌, ℕ, ◌<◌, ◌≤◌, Bool, true, false, cond, List, [], ◌∷◌, ◌++◌, length, set, IsErrAnd, Ok, Err, Result, sym, refl, ap, ◌∙◌, subst, append-nil}
 use Rattle.reading.specs.declared.invalid.TraceRecord.{TraceRecord}
 use Rattle.reading.specs.declared.invalid.InvalidFlatbuffer.{InvalidFlatbuffer}
 use Rattle.verifier.specs.declared.verifier.Verifier.{Verifier}
+use Rattle.reading.specs.declared.options.Counters.{Counters}
 use Rattle.reading.specs.Reading.{Outcome, accepted, refused, Walk, after, then, given, accept, refuse, within, risen, limit, unless, ranged, spend}
 use Rattle.reading.specs.Input.{saturated}
 use Rattle.reading.specs.declared.invalid.InvalidFlatbuffer.TheVariants.{RangeOutOfBounds}
@@ -20,11 +21,11 @@ kept_on h k = record { buffer = k.buffer ∙ h.buffer; opts = k.opts ∙ h.opts;
 
 answer_ok : {X : Type 0} (out : Outcome) (x y : X) → Ok y ≡ answer out x → (out ≡ accepted) × (y ≡ x)
 answer_ok accepted x y e = (refl, cc)
-answer_ok (refused f t) x y e = let z : ◌≡◌ {A = ℕ} 0 1 = cc in let no : ⊥ = omega arith in elim no [ ]
+answer_ok (refused f t) x y e = absurd cc
 
 answer_err : {X : Type 0} (out : Outcome) (x : X) (f : InvalidFlatbuffer) → Err f ≡ answer out x → out ≡ refused f (trace_of out)
-answer_err accepted x f e = let z : ◌≡◌ {A = ℕ} 0 1 = cc in let no : ⊥ = omega arith in elim no [ ]
-answer_err (refused g t) x f e = let z : f ≡ g = cc in ap (λ h. refused h t) (sym z)
+answer_err accepted x f e = absurd cc
+answer_err (refused g t) x f e = cc
 
 -- What a quiet call tells, and back.
 pub seen_told : {X : Type 0} {w : Walk} {x : List ℕ → X} {r : Result X InvalidFlatbuffer} {v v' : Verifier} → Seen w x r v v' → Told w x r v v'
@@ -163,6 +164,14 @@ pub seen_unless : (w : Walk) (f : InvalidFlatbuffer) (k : Bool) (r : Result (Uni
     (run w v).outcome ≡ unless k f → r ≡ cond k (Ok tt) (Err f) → v'.counters ≡ (run w v).counters → v'.trace.now ≡ v.trace.now → v'.traced ≡ v.traced → Kept v v' → Seen w done r v v'
 seen_unless w f true r v v' o e c t n k = record { result = e ∙ sym (ap (λ z. answer z tt) o); counters = c; trace = t; traced = n; quiet = ap trace_of o; kept = k }
 seen_unless w f false r v v' o e c t n k = record { result = e ∙ sym (ap (λ z. answer z tt) o); counters = c; trace = t; traced = n; quiet = ap trace_of o; kept = k }
+
+-- The same where nothing but a counter turns.
+abbrev pub counting : Verifier → Counters → Verifier
+counting v c = record { buffer = v.buffer; opts = v.opts; counters = c; trace = v.trace; traced = v.traced }
+
+pub seen_counted : (w : Walk) (f : InvalidFlatbuffer) (k : Bool) {r : Result (Unit {0}) InvalidFlatbuffer} {c : Counters} (v : Verifier) →
+    (run w v).outcome ≡ unless k f → r ≡ cond k (Ok tt) (Err f) → c ≡ (run w v).counters → Seen w done r v (counting v c)
+seen_counted w f k {r = r} {c = c} v o e i = seen_unless w f k r v (counting v c) o e i refl refl (record { buffer = refl; opts = refl; lent = refl })
 
 -- A range that lies inside, and one that does not.
 pub ranged_in : (p n : ℕ) (v : Verifier) → saturated p n ≤ length (bytes v) →

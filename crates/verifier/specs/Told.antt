@@ -1,12 +1,12 @@
 -- What a call of a verifier answers and leaves, given what it is to read.
-use Rattle.std.specs.Prelude.{◌≡◌, ℕ, List, [], IfOk, Result}
+use Rattle.std.specs.Prelude.{◌≡◌, ℕ, Bool, List, [], IfOk, Option, Result}
 use Rattle.std.specs.Borrow.{MutBor}
 use Rattle.reading.specs.declared.invalid.TraceRecord.{TraceRecord}
 use Rattle.reading.specs.declared.invalid.InvalidFlatbuffer.{InvalidFlatbuffer}
 use Rattle.reading.specs.declared.options.VerifierOptions.{VerifierOptions}
 use Rattle.reading.specs.Law.{Inside}
 use Rattle.reading.specs.Outcomes.{answer, counted, trace_of, written}
-use Rattle.reading.specs.Reading.{Reading, Walk, reading, unmet, vtable, vtable_len}
+use Rattle.reading.specs.Reading.{Reading, Walk, reading, slot_of, slot_read_of, unmet, visit_field_of, visit_union_of, vtable, vtable_len}
 use Rattle.reading.specs.Shape.{Shape}
 use Rattle.verifier.specs.declared.verifier.TableVerifier.{TableVerifier}
 use Rattle.verifier.specs.declared.verifier.Verdict.{Verdict}
@@ -73,6 +73,20 @@ done b = tt
 -- The table at a position, as its vtable says.
 abbrev pub table_of : List ℕ → ℕ → TableVerifier
 table_of b p = record { pos = p; vtable = vtable b p; vtable_len = vtable_len b p }
+
+-- In such a table: what is read to find the field of a slot, and where it stands, if anywhere.
+abbrev pub slot_visit : TableVerifier → ℕ → Walk
+slot_visit t s = slot_read_of t.vtable t.vtable_len s
+
+abbrev pub slot_place : TableVerifier → ℕ → List ℕ → Option ℕ
+slot_place t s b = slot_of b t.pos t.vtable t.vtable_len s
+
+-- The visit of a field, and of a union.
+abbrev pub field_visit : TableVerifier → ℕ → Bool → (ℕ → Walk) → Walk
+field_visit t s required w = visit_field_of t.pos t.vtable t.vtable_len s required w
+
+abbrev pub union_visit : TableVerifier → (key value : ℕ) → Bool → (ℕ → ℕ → Walk) → Walk
+union_visit t k s required w = visit_union_of t.pos t.vtable t.vtable_len k s required w
 
 -- A whole verification is the reading from no counters on, and where it accepts, the ranges read lie inside the input.
 pub record Verified (s : Shape) (p : ℕ) (b : List ℕ) (o : VerifierOptions) (r : Verdict) (t t' : List TraceRecord) : Type 0 where

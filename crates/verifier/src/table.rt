@@ -1,8 +1,8 @@
 // The fields and unions of a table that a verifier is in.
 ghost use Rattle.std.specs.Prelude.{◌≡◌, if◌then◌else◌, Ok, Err};
-ghost use Rattle.reading.specs.Reading.{reading, slot_of, slot_read_of, variants, visit_field_of, visit_union_of};
+ghost use Rattle.reading.specs.Reading.{reading, variants};
 ghost use Rattle.reading.specs.declared.invalid.InvalidFlatbuffer.TheVariants.{MissingRequiredField};
-ghost use Rattle.verifier.specs.Told.{Seen, Told, done};
+ghost use Rattle.verifier.specs.Told.{Seen, Told, done, field_visit, slot_place, slot_visit, union_visit};
 
 use crate::verifier::{
     InvalidFlatbuffer, TableVerifier, TraceRecord, UnionVerifier, Verifiable, Verifier,
@@ -22,15 +22,14 @@ fn missing(required: bool, slot: u16) -> Result<(), InvalidFlatbuffer>
 impl TableVerifier {
     // Where the field of a slot stands, if it is present.
     pub fn deref(self, v: &mut Verifier<'_>, slot: u16) -> Result<Option<usize>, InvalidFlatbuffer>
-        ensures { Seen (slot_read_of self.vtable self.vtable_len slot) (λ b. slot_of b self.pos self.vtable self.vtable_len slot) result v.old v.new }
+        ensures { Seen (slot_visit self slot) (slot_place self slot) result v.old v.new }
     {
         if (slot as usize) < self.vtable_len {
             let distance = v.get_u16(self.vtable.saturating_add(slot as usize))?;
-            if distance > 0 {
-                return Ok(Some(self.pos.saturating_add(distance as usize)));
-            }
+            Ok((distance > 0).then_some(self.pos.saturating_add(distance as usize)))
+        } else {
+            Ok(None)
         }
-        Ok(None)
     }
 
     // Verifies the field of a slot.
@@ -40,7 +39,7 @@ impl TableVerifier {
         slot: u16,
         required: bool,
     ) -> Result<(), InvalidFlatbuffer>
-        ensures { Told (visit_field_of self.pos self.vtable self.vtable_len slot required (reading T.Verifiable.shape)) done result v.old v.new }
+        ensures { Told (field_visit self slot required (reading T.Verifiable.shape)) done result v.old v.new }
     {
         match self.deref(v, slot)? {
             Some(position) => v.visit::<T>(TraceRecord::TableField { slot, position }),
@@ -56,7 +55,7 @@ impl TableVerifier {
         value: u16,
         required: bool,
     ) -> Result<(), InvalidFlatbuffer>
-        ensures { Told (visit_union_of self.pos self.vtable self.vtable_len key value required (variants U.UnionVerifier.choices)) done result v.old v.new }
+        ensures { Told (union_visit self key value required (variants U.UnionVerifier.choices)) done result v.old v.new }
     {
         let value_pos = self.deref(v, value)?;
         let key_pos = self.deref(v, key)?;

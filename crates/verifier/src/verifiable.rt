@@ -8,6 +8,7 @@ use kinds::names::{ForwardsUOffset, SkipSizePrefix, Str, VectorOf};
 // A kind that is verified by its place alone: every byte pattern is a value of it.
 pub trait SimpleToVerifyInSlice: Kind {}
 
+// Each number has its line: an impl for every `EndianScalar` would conflict with those of the kinds below.
 impl SimpleToVerifyInSlice for u8 {}
 
 impl SimpleToVerifyInSlice for u16 {}

@@ -1,3 +1,4 @@
+pub mod Lookup
 pub mod Views
 pub mod Identifier
 pub mod Search

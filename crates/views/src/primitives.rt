@@ -5,11 +5,11 @@ ghost use Rattle.views.specs.Views.{forwards};
 
 use crate::follow::{Element, Follow, Inline};
 use kinds::Kind;
-use kinds::follow::contains;
+use kinds::follow::array_at;
 use kinds::names::ForwardsUOffset;
 use kinds::primitives::WIPOffset;
-use wire::words::read_u32;
 
+// Each number has its line: an impl for every `EndianScalar` would conflict with the one for offsets.
 impl Inline for u8 {}
 
 impl Inline for u16 {}
@@ -45,10 +45,8 @@ impl<'a, T: Follow<'a>> Follow<'a> for ForwardsUOffset<T> {
     ghost borrows = { T.Follow.borrows };
 
     fn follow(buf: &'a [u8], loc: usize) -> Option<T::Inner> {
-        if !contains(buf, loc, 4) {
-            return None;
-        }
-        T::follow(buf, loc + read_u32(buf, loc) as usize)
+        let distance = u32::from_le_bytes(array_at(buf, loc)?);
+        T::follow(buf, loc + distance as usize)
     }
 }
 

@@ -10,6 +10,7 @@ pub mod methods;
 pub struct Vector<'a, T> {
     pub(crate) buf: &'a [u8],
     pub(crate) loc: usize,
+    // Kept as a number: by it the type says that the elements lie inside, whatever `T` is.
     pub(crate) size: usize,
     pub(crate) kind: PhantomData<T>,
     ghost head: { loc + 4 ≤ length buf.now },

@@ -210,4 +210,3 @@ part_zeros from count size n h e =
     ap (take count) (drop-replicate from size 0 ∙ ap zeros all ∙ sym (replicate-append-replicate count more 0))
     ∙ take_at (zeros count) (zeros more) count (length-replicate count 0)
     ∙ ap zeros e
-

@@ -4,7 +4,7 @@ ghost use Rattle.reading.specs.Reading.{limit, number as number_of, position_of,
 use super::{InvalidFlatbuffer, TraceRecord};
 
 impl InvalidFlatbuffer {
-    // The number of the refusal.
+    // The number by which documents and tools name the refusal.
     pub fn number(self) -> u8
         ensures { result ≡ number_of self }
     {
@@ -36,7 +36,7 @@ impl InvalidFlatbuffer {
 }
 
 impl TraceRecord {
-    // 1, 2 or 3: an element of a vector, a field of a table, a variant of a union.
+    // The number by which documents and tools name the layer's kind.
     pub fn number(self) -> u8
         ensures { result ≡ record_number self }
     {

@@ -29,10 +29,10 @@ impl FieldLocs {
     pub(crate) fn distance(&self, table: usize, slot: u16) -> usize
         ensures { result ≡ distance table (lookup slot (fields self.now)) }
     {
-        match self.place(slot) {
-            Some(i) => table.saturating_sub(self.items[i].off as usize),
-            None => 0,
-        }
+        self.items
+            .iter()
+            .find(|loc| loc.id == slot)
+            .map_or(0, |loc| table.saturating_sub(loc.off as usize))
     }
 
     // Whether the slot can be recorded: it is already, or there is room for one more.
@@ -42,7 +42,8 @@ impl FieldLocs {
         self.items.len() < SLOTS || self.place(slot).is_some()
     }
 
-    // Records where the slot's value lies, over an earlier record of the slot; says no where the slot does not stand or there is no room.
+    // Records where the slot's value lies, over an earlier record of the slot; says no, as a set's `insert` does,
+    // where the slot does not stand or there is no room.
     pub fn record(&mut self, slot: u16, off: u32) -> bool
         ensures value { result ≡ (slot_stands slot && not (not (is_some (lookup slot (fields self.old))) && no_room (length (fields self.old)))) }
         ensures fields { fields self.new ≡ (if result then record_slot slot off (fields self.old) else fields self.old) }

@@ -14,7 +14,7 @@ impl Offsets {
         }
     }
 
-    // Keeps one more offset where there is room for it; else says no.
+    // Keeps one more offset where there is room for it; else says no, as a set's `insert` does.
     pub fn push(&mut self, off: u32) -> bool
         ensures value { result ≡ not (no_room (length (offsets self.old))) }
         ensures offsets { offsets self.new ≡ (if result then offsets self.old ++ off ∷ [] else offsets self.old) }

@@ -21,7 +21,8 @@ impl Offsets {
     pub fn find_string<S: Allocator>(&self, space: &Space<S>, text: &[u8]) -> Option<u32>
         ensures { result ≡ equal_object space.now.taken (le 4 (length text.now) ++ text.now) (offsets self.now) }
     {
-        // A rule of this project: a search among written objects is a loop.
+        // A loop by a rule of this project: a search among written objects.
+        // It takes no closure, so the search for a vtable is its near twin.
         for off in self.items.as_slice() {
             if is_string(space, *off, text) {
                 return Some(*off);
@@ -36,7 +37,7 @@ fn is_string<S: Allocator>(space: &Space<S>, off: u32, text: &[u8]) -> bool
     ensures { result ≡ bytes_eq (take (length (le 4 (length text.now) ++ text.now)) (last off space.now.taken)) (le 4 (length text.now) ++ text.now) }
 {
     let used = space.used();
-    let start = used - used.min(off as usize);
+    let start = used.saturating_sub(off as usize);
     // as much of the length as four bytes can say
     let count = text.len().to_le_bytes();
     bytes_at(space, start, &count[..4]) && bytes_at(space, start + 4, text)

@@ -56,7 +56,7 @@ impl<'a> VTableWriter<'a> {
         ensures { result ≡ bytes_eq (take (length (vtable_of self.now)) (last off space.now.taken)) (vtable_of self.now) }
     {
         let used = space.used();
-        let start = used - used.min(off as usize);
+        let start = used.saturating_sub(off as usize);
         used - start >= self.len && (0..self.len).all(|i| self.byte(i) == space.byte(start + i))
     }
 
@@ -64,7 +64,7 @@ impl<'a> VTableWriter<'a> {
     pub(crate) fn find<S: Allocator>(&self, space: &Space<S>, vtables: &Offsets) -> Option<u32>
         ensures { result ≡ equal_object space.now.taken (vtable_of self.now) (offsets vtables.now) }
     {
-        // A rule of this project: searches among written objects, and walks over the records, are loops.
+        // A loop by a rule of this project: a search among written objects.
         for vtable in vtables.items.as_slice() {
             if self.stands_at(space, *vtable) {
                 return Some(*vtable);
@@ -91,10 +91,11 @@ impl<'a> VTableWriter<'a> {
     }
 }
 
-// How long the vtable is: the largest recorded slot plus 2, or 4. It stays a loop, as a walk over the records.
+// How long the vtable is: the largest recorded slot plus 2, or 4.
 fn get_vtable_byte_len(field_locs: &FieldLocs) -> usize
     ensures { result ≡ vtable_length (fields field_locs.now) }
 {
+    // A loop by a rule of this project: a walk over the records.
     let mut len: usize = 4;
     for loc in field_locs.items.as_slice() {
         len = len.max(loc.id as usize + 2);

@@ -2,7 +2,8 @@
 ghost use Rattle.std.specs.Prelude.{◌≡◌};
 ghost use Rattle.views.specs.Identifier.{has_identifier, number};
 
-// Why it is not told whether a buffer has an identifier.
+// Why it is not told whether a buffer has an identifier. Other enums have these two as well; here they stand
+// by themselves, since a caller of `buffer_has_identifier` meets no other.
 #[derive(Clone, Copy, Debug, PartialEq, Eq)]
 pub enum IdentifierError {
     // An identifier that is not four bytes long.

@@ -5,7 +5,7 @@ ghost use Rattle.views.specs.Views.{table_inside, vtable_of, field_of, table_at}
 use super::Table;
 use crate::follow::Follow;
 use crate::vtable::VTable;
-use kinds::follow::contains;
+use kinds::follow::array_at;
 use wire::words::{led_to, read_u32};
 
 impl<'a> Table<'a> {
@@ -14,10 +14,7 @@ impl<'a> Table<'a> {
         ensures test { is_some result ≡ table_inside buf.now loc }
         ensures some { IfSome result (λ t. (t.buf ≡ buf.entry) × (t.loc ≡ loc)) }
     {
-        if !contains(buf, loc, 4) {
-            return None;
-        }
-        let place = led_to(buf, loc, read_u32(buf, loc))?;
+        let place = led_to(buf, loc, u32::from_le_bytes(array_at(buf, loc)?))?;
         let _vtable = VTable::init(buf, place)?;
         Some(Table { buf, loc })
     }

@@ -15,6 +15,7 @@ impl<'a> Text<'a> {
         ensures some { IfSome result (λ t. (t.bytes.buf ≡ buf.entry) × (t.bytes.loc ≡ loc)) }
     {
         let bytes = Vector::<u8>::new(buf, loc)?;
+        // `then_some` would build the text before its bytes were looked at.
         if !is_utf8(bytes.bytes()) {
             return None;
         }
@@ -34,6 +35,7 @@ impl<'a> Text<'a> {
         ensures { result.now ≡ text_bytes self.now.bytes.buf.now self.now.bytes.loc }
     {
         let bytes = self.as_bytes();
+        // SAFETY: the type keeps that the bytes are UTF-8.
         unsafe { from_utf8_unchecked(bytes) }
     }
 }

@@ -1,14 +1,13 @@
 ghost use Rattle.std.specs.Prelude.{◌≡◌, ℕ, ◌+◌, ◌^◌, ◌<◌, is_some, IfSome, ◌==◌};
 ghost use Rattle.std.specs.declared.cmp.Ordering.TheVariants.{Equal};
 ghost use Rattle.std.specs.Option.{option_map};
-ghost use Rattle.wire.specs.Words.{word};
-ghost use Rattle.views.specs.Search.{Looked, Finds};
+ghost use Rattle.views.specs.Lookup.{FindsIt, HasKey, LookedUp, count_of};
 ghost use Rattle.views.specs.Views.{vector_inside, element_bytes, element_of, vector_at};
 
 use super::Vector;
 use crate::follow::{Element, Follow};
 use crate::key::KeyOrder;
-use kinds::follow::contains;
+use kinds::follow::{array_at, contains};
 use kinds::names::VectorOf;
 use std::cmp::Ordering;
 use std::marker::PhantomData;
@@ -16,14 +15,14 @@ use wire::words::read_u32;
 
 impl<'a, T> Vector<'a, T> {
     pub fn len(&self) -> usize
-        ensures value { result ≡ word 4 self.now.buf.now self.now.loc }
+        ensures value { result ≡ count_of self.now }
         ensures bound { result < 2 ^ 32 }
     {
         read_u32(self.buf, self.loc) as usize
     }
 
     pub fn is_empty(&self) -> bool
-        ensures { result ≡ (word 4 self.now.buf.now self.now.loc == 0) }
+        ensures { result ≡ (count_of self.now == 0) }
     {
         self.len() == 0
     }
@@ -44,11 +43,9 @@ impl<'a, T: Element> Vector<'a, T> {
         ensures test { is_some result ≡ vector_inside T.Element.size buf.now loc }
         ensures some { IfSome result (λ v. (v.buf ≡ buf.entry) × (v.loc ≡ loc) × (v.size ≡ T.Element.size)) }
     {
-        if !contains(buf, loc, 4) {
-            return None;
-        }
+        let count = u32::from_le_bytes(array_at(buf, loc)?);
         let size = T::size();
-        let len = size.checked_mul(read_u32(buf, loc) as usize)?;
+        let len = size.checked_mul(count as usize)?;
         if !contains(buf, loc + 4, len) {
             return None;
         }
@@ -79,11 +76,12 @@ where
     T::Inner: Copy,
 {
     // By hand: it meets the elements in the Rust's order, and one that cannot be read ends it, which the
-    // library's search has no way to say.
+    // library's search has no way to say. A function of its own: that it `finds` follows once from `value`,
+    // and not anew at each of the five exits here.
     fn halved<K: KeyOrder<T::Inner>>(&self, key: &K) -> Option<T::Inner>
-        ensures value { Looked (T.Follow.borrows self.now.buf) T.Follow.means K.KeyOrder.key K.KeyOrder.order (K.KeyOrder.sought key.now) (element_of T.Follow.reads self.now.size self.now.buf.now self.now.loc) (word 4 self.now.buf.now self.now.loc) result }
+        ensures value { LookedUp T.Follow K.KeyOrder self.now key.now result }
         ensures borrowed { IfSome result (T.Follow.borrows self.now.buf) }
-        ensures sound { IfSome result (λ v. K.KeyOrder.order.cmp (K.KeyOrder.key v) (K.KeyOrder.sought key.now) ≡ Equal) }
+        ensures sound { HasKey K.KeyOrder key.now result }
     {
         let mut left: usize = 0;
         let mut right = self.len().checked_sub(1)?;
@@ -102,10 +100,10 @@ where
     // The element that the halving meets, whose key is the one sought; nothing where there is none, or where
     // an element on the way cannot be read.
     pub fn lookup_by_key<K: KeyOrder<T::Inner>>(&self, key: &K) -> Option<T::Inner>
-        ensures value { Looked (T.Follow.borrows self.now.buf) T.Follow.means K.KeyOrder.key K.KeyOrder.order (K.KeyOrder.sought key.now) (element_of T.Follow.reads self.now.size self.now.buf.now self.now.loc) (word 4 self.now.buf.now self.now.loc) result }
+        ensures value { LookedUp T.Follow K.KeyOrder self.now key.now result }
         ensures borrowed { IfSome result (T.Follow.borrows self.now.buf) }
-        ensures sound { IfSome result (λ v. K.KeyOrder.order.cmp (K.KeyOrder.key v) (K.KeyOrder.sought key.now) ≡ Equal) }
-        ensures finds { Finds (T.Follow.borrows self.now.buf) T.Follow.means K.KeyOrder.key K.KeyOrder.order (K.KeyOrder.sought key.now) (element_of T.Follow.reads self.now.size self.now.buf.now self.now.loc) (word 4 self.now.buf.now self.now.loc) result }
+        ensures sound { HasKey K.KeyOrder key.now result }
+        ensures finds { FindsIt T.Follow K.KeyOrder self.now key.now result }
     {
         self.halved(key)
     }

@@ -3,7 +3,7 @@ ghost use Rattle.wire.specs.Words.{word};
 ghost use Rattle.views.specs.Views.{vtable_inside, vtable_bytes, slot_value, object_size, field_count, slot_of_field, field_of_slot};
 
 use super::VTable;
-use kinds::follow::contains;
+use kinds::follow::{array_at, contains};
 use wire::slot::valid_slot;
 use wire::words::read_u16;
 
@@ -13,7 +13,8 @@ impl<'a> VTable<'a> {
         ensures test { is_some result ≡ vtable_inside buf.now loc }
         ensures some { IfSome result (λ v. (v.buf ≡ buf.entry) × (v.loc ≡ loc)) }
     {
-        if !contains(buf, loc, 2) || !contains(buf, loc, read_u16(buf, loc) as usize) {
+        let len = u16::from_le_bytes(array_at(buf, loc)?);
+        if !contains(buf, loc, len as usize) {
             return None;
         }
         Some(VTable { buf, loc })

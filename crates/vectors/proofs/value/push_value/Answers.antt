@@ -26,13 +26,13 @@ module _ (g : given.Over) (c : goal.After-used g) where
       let zeroed = subst (λ (k : ℕ). Placed c.room_for_value.new.space c.put_zeros.new.self c.put_zeros.result (zeros k)) is c.put_zeros.ensures in
       prepended_padded c.args.space.now _ _ _ _ _ (push_padding x used) x.size _ x.bytes x.long c.in_ok-pad.ensures.space zeroed c.put_value.ensures.placed refl
 
-pub returns-clause-answer : goal.returns-clause-answer
-returns-clause-answer g c =
+pub returns-clause-wrote : goal.returns-clause-wrote
+returns-clause-wrote g c =
     let offset = prepended_used c.args.space.now c.put_value.new.space _ _ (length_pushed (x g c) (used g c)) (written g c) in
-    ap Ok (c.used.ensures ∙ offset) ∙ decided_other _ (push_tests (x g c) (used g c) c.args.space.now.limit) _ _ c.in_ok-pad.ensures.answer
-
-pub returns-clause-space : goal.returns-clause-space
-returns-clause-space g c = written g c
+    record {
+      answer = ap Ok (c.used.ensures ∙ offset) ∙ decided_other _ (push_tests (x g c) (used g c) c.args.space.now.limit) _ _ c.in_ok-pad.ensures.answer;
+      space = written g c;
+    }
 
 pub returns-clause-fits : goal.returns-clause-fits
 returns-clause-fits g c =

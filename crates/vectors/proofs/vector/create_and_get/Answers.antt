@@ -13,9 +13,9 @@ returns g c d _ h =
     let used = c.args.space.now.taken in
     let items = c.args.items.now in
     let made = c.in_ok-create_vector.ensures in
-    let passed = vector_passed (layout m law) (map (pushed m law) items) (length used) _ _ _ made.answer in
+    let passed = vector_passed (layout m law) (map (pushed m law) items) (length used) _ _ _ made.wrote.answer in
     let low = subst (λ (n : ℕ). vector_space (length used) (n * m.size) m.alignment ≤ 2147483647) (length-map items (pushed m law)) passed.1 in
     let back = (reads_back m law items [] used (made.fit refl) passed.0 low).1 c.args.i d h in
-    let bytes = c.as_slice.ensures ∙ made.space.used in
+    let bytes = c.as_slice.ensures ∙ made.wrote.space.used in
     ap Ok (c.get.ensures ∙ ap (λ (b : List ℕ). element m b 4 (length items) c.args.i) bytes ∙ back
-    ∙ ap (λ (b : List ℕ). Some (m.shown (get_or items c.args.i d) (length b))) (sym made.space.used))
+    ∙ ap (λ (b : List ℕ). Some (m.shown (get_or items c.args.i d) (length b))) (sym made.wrote.space.used))

@@ -46,15 +46,15 @@ module _ (g : given.Over) (c : goal.After-used g) where
       let size = length_vector kind code used (all_of g.T.Kind.meaning g.T.Kind.lawful c.args.items.now) in
       prepended_used c.args.space.now c.put_front.new.self _ _ size written
 
-pub returns-in_err-pad-clause-space : goal.returns-in_err-pad-clause-space
-returns-in_err-pad-clause-space g c =
+pub returns-in_err-pad-clause-wrote : goal.returns-in_err-pad-clause-wrote
+returns-in_err-pad-clause-wrote g c =
     let m = g.T.Kind.meaning in
     let law = g.T.Kind.lawful in
     let items = c.args.items.now in
     let code = map (pushed m law) items in
     let count = length-map items (pushed m law) in
     let size = length_vector (layout m law) code (length c.args.space.now.taken) (all_of m law items) in
-    grind (arith, common_steps)
+    record { answer = search rules; space = grind (arith, common_steps) }
 
 pub overflow_cast-items : goal.overflow_cast-items
 overflow_cast-items g c =
@@ -73,9 +73,9 @@ overflow_cast-result g c =
     let last = offset g c in
     omega arith
 
-pub returns-clause-answer : goal.returns-clause-answer
-returns-clause-answer g c =
-    ap Ok (c.used.ensures ∙ offset g c) ∙ decided_other _ (vector_tests (kind g c) (code g c) (used g c) c.args.space.now.limit) _ _ c.in_ok-pad.ensures.answer
-
-pub returns-clause-space : goal.returns-clause-space
-returns-clause-space g c = written g c
+pub returns-clause-wrote : goal.returns-clause-wrote
+returns-clause-wrote g c =
+    record {
+      answer = ap Ok (c.used.ensures ∙ offset g c) ∙ decided_other _ (vector_tests (kind g c) (code g c) (used g c) c.args.space.now.limit) _ _ c.in_ok-pad.ensures.answer;
+      space = written g c;
+    }

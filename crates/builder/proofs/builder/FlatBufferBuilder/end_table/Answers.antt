@@ -1,18 +1,18 @@
-use Rattle.std.proofs.Common.{◌≡◌, ℕ, ◌+◌, ◌-◌, false, not, ◌&&◌, eqb, ltb, leb, List, [], ◌∷◌, length, is_some, sym, refl, ap, ◌∙◌, subst, arith, length-append}
-use Rattle.std.proofs.lemmas.Result.{err_from_is_err_and}
-use Rattle.std.proofs.lemmas.Bool.{eq-eqb}
+use Rattle.std.proofs.Common.{◌≡◌, ℕ, false, not, eqb, leb, List, length, sym, refl, ap, ◌∙◌, subst, arith, length-append}
+use Rattle.std.proofs.lemmas.Bool.{eq-eqb, ltb-false}
 use Rattle.space.specs.Taken.{Fronted}
 use Rattle.model.specs.Calls.{Call, Reply, at}
 use Rattle.model.specs.Steps.{effect, end_table_tests, ends_table, table_needs, tests}
-use Rattle.model.specs.Tables.{equal_object, no_room, table_bytes, table_offset, table_space, table_tests, table_vtable}
+use Rattle.model.specs.Tables.{equal_object, table_bytes, table_offset, table_space, table_tests, table_vtable}
 use Rattle.tables.specs.Fields.{fields}
-use Rattle.wire.specs.declared.refusal.Refusal.TheVariants.{Full, NotOpen, TableTooLarge}
-use Rattle.wire.specs.Answers.{Test, Where, above, decided, number, too_much, ◌because◌}
-use Rattle.wire.proofs.Decided.{decided_err, passed_on, tests_low}
+use Rattle.wire.specs.declared.refusal.Refusal.TheVariants.{NotOpen}
+use Rattle.wire.specs.Answers.{Test, Where, decided, number, ◌because◌}
+use Rattle.wire.proofs.Decided.{decided_err}
+use Rattle.vectors.proofs.Created.{passed}
 use Rattle.builder.specs.declared.inner.Open.{Open}
 use Rattle.builder.specs.declared.inner.Open.TheVariants.{Table}
 use Rattle.builder.specs.View.{nest_of, view}
-use Rattle.builder.proofs.Wrapped.{unfinished, fronted_limit, kept_refused, left_is, length_table, pass_two}
+use Rattle.builder.proofs.Wrapped.{did_handed, unfinished, fronted_limit, kept_refused, left_is, length_table, pass_two}
 use Rattle.builder.proofs.builder.FlatBufferBuilder.end_table.Goals as goal
 
 pub returns-in_err-off : goal.returns-in_err-off
@@ -33,8 +33,7 @@ returns-in_err-off g c =
     let pass : (y : Reply) → decided (tests (Call.end_table start) s) y ≡ decided ts y =
     λ y. pass_two s (not (ends_table start s.nest) because NotOpen) (end_table_tests s.nest s) (unfinished _ _ c.in_ok-assert_not_finished.ensures) ends y ∙ ap (λ (us : List Test). decided us y) same in
     let answer = decided_err _ ts _ (at (table_offset used)) told.answer ∙ sym (pass (at (table_offset used))) in
-    let p = err_from_is_err_and c.from_residual-in_err-off.result c.from_residual-in_err-off.ensures.1 in
-    rw (p.1, p.2) record {
+    did_handed c.from_residual-in_err-off.ensures.1 record {
       answer = answer;
       state =
           left_is s _ _ _ (fronted_limit b.space after _ _ told.store) told.used told.vtables
@@ -55,8 +54,6 @@ invariant_of-self-2 g c =
     let ts = table_tests start ls s.used s.vtables s.limit in
     let after = c.end_table.new.space in
     let made = c.in_ok-off.ensures in
-    let rest = too_much (table_space used vt found) ∷ above (table_offset used + length vt) s.limit ∷ ((not (is_some found) && no_room (length s.vtables)) because Full) ∷ [] in
-    let one = (passed_on (ltb 65535 (table_offset used - start) because TableTooLarge) rest _ _ made.answer).1 in
-    let low = tests_low (table_space used vt found) (above (table_offset used + length vt) s.limit ∷ ((not (is_some found) && no_room (length s.vtables)) because Full) ∷ []) _ _ one in
+    let low = ltb-false 2147483647 (table_space used vt found) (passed ts _ _ made.answer).1.0 in
     let long = ap length made.used ∙ length-append (table_bytes used vt found) s.used ∙ length_table used vt found in
     record { short = omega (arith, low, long, b.short) }

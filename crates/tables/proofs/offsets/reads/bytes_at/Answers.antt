@@ -11,4 +11,4 @@ returns-then-saturating_sub-bytes g c =
     let bs = c.args.bytes.now in
     all_from_yields_List (λ p. eqb (get_or us (c.args.start + p.0) 0) p.1) _ _ c.all.result c.all.ensures.ran
     (YieldsList-from_enumerate (YieldsList-from_slice bs cc) cc) (λ x b q k. search (rules, tests))
-    ∙ bytes_hold us bs c.args.start 0 c.args.start (omega arith) (omega arith)
+    ∙ bytes_hold us bs c.args.start (omega arith)

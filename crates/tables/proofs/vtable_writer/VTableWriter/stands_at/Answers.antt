@@ -1,4 +1,4 @@
-use Rattle.std.proofs.Common.{rules, tests, ◌≡◌, ℕ, ◌+◌, ◌-◌, List, length, take, eqb, get_or, refl, ap, ◌∙◌, arith}
+use Rattle.std.proofs.Common.{rules, tests, ℕ, ◌+◌, List, length, take, eqb, get_or, refl, ap, ◌∙◌, arith}
 use Rattle.std.proofs.lemmas.Iterator.{YieldsList-from_range}
 use Rattle.std.proofs.lemmas.Iterator.Search.{all_from_yields_List}
 use Rattle.std.proofs.lemmas.Bool.{lt-leb}
@@ -13,7 +13,7 @@ returns-else-used-start g c =
     let us = c.args.space.now.taken in
     let vt = vtable_of c.args.self.now in
     let b = writer_bounds c.args.self.now in
-    let start = c.used-used.result - c.min.result in
+    let start = c.saturating_sub-start.result in
     lt-leb _ _ c.if-used-start.false ∙ bytes_short us vt start (omega arith)
     ∙ ap (λ (v : List ℕ). bytes_eq (take (length vt) v) vt) (object_at us c.args.off start (omega arith))
 
@@ -22,8 +22,8 @@ returns-then-used-start g c =
     let us = c.args.space.now.taken in
     let vt = vtable_of c.args.self.now in
     let b = writer_bounds c.args.self.now in
-    let start = c.used-used.result - c.min.result in
+    let start = c.saturating_sub-start.result in
     all_from_yields_List (λ i. eqb (get_or us (start + i) 0) (get_or vt i 0)) _ _ c.all.result c.all.ensures.ran
     (YieldsList-from_range 0 c.args.self.now.len (length vt) refl (omega arith)) (λ x b q k. search (rules, tests))
-    ∙ range_holds us vt vt start 0 start (λ i j e. let same : i ≡ j = omega arith in ap (λ (m : ℕ). get_or vt m 0) same) (omega arith) (omega arith)
+    ∙ range_holds us vt start (omega arith)
     ∙ ap (λ (v : List ℕ). bytes_eq (take (length vt) v) vt) (object_at us c.args.off start (omega arith))

@@ -1,8 +1,8 @@
-use Rattle.std.proofs.Common.{Ok, Err, arith}
+use Rattle.std.proofs.Common.{arith}
 use Rattle.reading.specs.Input.{saturated}
-use Rattle.reading.specs.Reading.{reading, visit_offsets, element_at}
+use Rattle.reading.specs.Reading.{reading, visit_offsets}
 use Rattle.verifier.proofs.Walks.{seen_told, told_exit}
-use Rattle.verifier.proofs.Vectors.{rest_goes, rest_stops, rest_ends, element_read, offsets_read}
+use Rattle.verifier.proofs.Vectors.{element_goes, element_stops, offsets_read, rest_ends}
 use Rattle.verifier.proofs.verifiable.VectorOfForwardsUOffsetVerifiable.run_verifier.Goals as goal
 
 pub returns-in_err-len : goal.returns-in_err-len
@@ -17,20 +17,15 @@ overflow_add-position g c = let f = c.in_ok-len.ensures.fits in let s = c.satura
 pub returns-in_err-visit : goal.returns-in_err-visit
 unfolding reading saturated
 returns-in_err-visit g c =
-    let w = element_at (saturated c.args.pos 4) (reading g.T.Verifiable.shape) in
-    offsets_read c.args.pos _ (reading g.T.Verifiable.shape) c.in_ok-len.ensures.seen
-    (rest_stops w c.loop-index.index c.in_ok-len.field-0 _ _ c.loop-index.invariant _ _ _ c.loop-index-test.true c.from_residual-in_err-visit.ensures.1
-    (element_read {r = Err c.in_err-visit.field-0.0} _ _ c.loop-index.index (reading g.T.Verifiable.shape) c.saturating_add-start.ensures c.in_err-visit.ensures))
+    offsets_read c.args.pos _ _ c.in_ok-len.ensures.seen
+    (element_stops _ _ _ _ (reading g.T.Verifiable.shape) _ _ c.saturating_add-start.ensures c.loop-index.invariant c.loop-index-test.true c.from_residual-in_err-visit.ensures.1 c.in_err-visit.ensures)
 
 pub loop-index-preserved : goal.loop-index-preserved
 unfolding reading saturated
 loop-index-preserved g c =
-    let w = element_at (saturated c.args.pos 4) (reading g.T.Verifiable.shape) in
-    rest_goes w c.loop-index.index c.in_ok-len.field-0 _ _ c.loop-index.invariant _ c.loop-index-test.true
-    (element_read {r = Ok tt} _ _ c.loop-index.index (reading g.T.Verifiable.shape) c.saturating_add-start.ensures c.in_ok-visit.ensures)
+    element_goes _ _ _ _ (reading g.T.Verifiable.shape) _ _ c.saturating_add-start.ensures c.loop-index.invariant c.loop-index-test.true c.in_ok-visit.ensures
 
 pub returns : goal.returns
 unfolding reading
 returns g c =
-    let w = element_at (saturated c.args.pos 4) (reading g.T.Verifiable.shape) in
-    offsets_read c.args.pos _ (reading g.T.Verifiable.shape) c.in_ok-len.ensures.seen (rest_ends w c.loop-index.index c.in_ok-len.field-0 _ _ c.loop-index.invariant c.loop-index-test.false)
+    offsets_read c.args.pos _ _ c.in_ok-len.ensures.seen (rest_ends _ _ _ _ _ c.loop-index.invariant c.loop-index-test.false)

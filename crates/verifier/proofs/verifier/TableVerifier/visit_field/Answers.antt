@@ -1,4 +1,4 @@
-use Rattle.reading.specs.Reading.{visit_field_of, reading}
+use Rattle.reading.specs.Reading.{visit_field_of}
 use Rattle.verifier.proofs.Walks.{told_exit, seen_told}
 use Rattle.verifier.proofs.Tables.{field_read, missing_told}
 use Rattle.verifier.proofs.verifier.TableVerifier.visit_field.Goals as goal
@@ -10,9 +10,9 @@ returns-in_err-position g c =
     (seen_told c.in_err-position.ensures)
 
 pub returns-in-Some : goal.returns-in-Some
-returns-in-Some g c = field_read _ _ _ _ c.args.required (reading g.T.Verifiable.shape) _ _ _ c.in_ok-position.ensures _ _ _ c.in-Some.is c.visit.ensures
+returns-in-Some g c = field_read _ _ _ _ c.in_ok-position.ensures c.in-Some.is c.visit.ensures
 
 pub returns-in-None : goal.returns-in-None
 returns-in-None g c =
-    field_read _ _ _ _ c.args.required (reading g.T.Verifiable.shape) _ _ _ c.in_ok-position.ensures _ _ _ c.in-None.is
-    (missing_told c.args.required c.args.slot c.missing.result c.deref.new.v c.missing.ensures)
+    field_read _ _ _ _ c.in_ok-position.ensures c.in-None.is
+    (missing_told _ _ c.missing.ensures)

@@ -1,9 +1,9 @@
-use Rattle.std.proofs.Common.{◌<◌, ◌≤◌, length, sym, refl, ap, ◌∙◌, subst}
+use Rattle.std.proofs.Common.{◌<◌, ◌≤◌, length, sym, ap, ◌∙◌, subst}
 use Rattle.reading.specs.Input.{saturated}
 use Rattle.reading.specs.Reading.{ranged, spend, with_size}
 use Rattle.reading.specs.declared.invalid.InvalidFlatbuffer.TheVariants.{ApparentSizeTooLarge}
 use Rattle.verifier.specs.Told.{bytes}
-use Rattle.verifier.proofs.Walks.{seen_out, ranged_in, seen_unless}
+use Rattle.verifier.proofs.Walks.{seen_out, ranged_in, seen_counted}
 use Rattle.verifier.proofs.verifier.Verifier.range_in_buffer.Goals as goal
 
 pub returns-then-end-self-clause-seen : goal.returns-then-end-self-clause-seen
@@ -16,5 +16,5 @@ pub returns-clause-seen : goal.returns-clause-seen
 unfolding saturated spend
 returns-clause-seen c =
     let i = ranged_in c.args.pos c.args.size c.args.self.now (subst (λ n. n ≤ length (bytes c.args.self.now)) c.saturating_add-end.ensures c.if-end-self.false) in
-    seen_unless (ranged c.args.pos c.args.size) ApparentSizeTooLarge _ c.raise.result c.args.self.now _ i.0 c.raise.ensures.answer
-    (ap (with_size c.args.self.now.counters) c.raise.ensures.value ∙ sym i.1) refl refl (record { buffer = refl; opts = refl; lent = refl })
+    seen_counted (ranged c.args.pos c.args.size) ApparentSizeTooLarge _ c.args.self.now i.0 c.raise.ensures.answer
+    (ap (with_size c.args.self.now.counters) c.raise.ensures.value ∙ sym i.1)

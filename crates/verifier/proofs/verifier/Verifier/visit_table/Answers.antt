@@ -9,22 +9,19 @@ unfolding visit_table
 returns-in_err-vtable c = seen_exit _ _ _ c.from_residual.ensures.1 c.in_err-vtable.ensures
 
 pub returns-in_err-vtable_len : goal.returns-in_err-vtable_len
-unfolding visit_table at_vtable
+unfolding at_vtable
 returns-in_err-vtable_len c =
-    seen_then c.in_ok-vtable.ensures
-    (at_vtable_read c.args.pos c.in_ok-vtable.vtable _ _ _ (seen_got c.in_ok-vtable.ensures) refl (seen_exit _ _ _ c.from_residual-in_err-vtable_len.ensures.1 c.in_err-vtable_len.ensures))
+    at_vtable_read _ c.in_ok-vtable.ensures refl (seen_exit _ _ _ c.from_residual-in_err-vtable_len.ensures.1 c.in_err-vtable_len.ensures)
 
 pub returns-in_err-enter : goal.returns-in_err-enter
-unfolding visit_table at_vtable
+unfolding at_vtable
 returns-in_err-enter c =
     let f = c.in_ok-vtable_len.ensures in
-    seen_then c.in_ok-vtable.ensures
-    (at_vtable_read c.args.pos c.in_ok-vtable.vtable _ _ _ (seen_got c.in_ok-vtable.ensures) (seen_value f) (seen_then f (seen_err _ _ c.from_residual-in_err-enter.ensures.1 c.in_err-enter.ensures)))
+    at_vtable_read _ c.in_ok-vtable.ensures (seen_value f) (seen_then f (seen_err _ _ c.from_residual-in_err-enter.ensures.1 c.in_err-enter.ensures))
 
 pub returns : goal.returns
-unfolding visit_table at_vtable
+unfolding at_vtable
 returns c =
     let f = c.in_ok-vtable_len.ensures in
-    let g = seen_got c.in_ok-vtable.ensures in
-    seen_answer _ _ (table_read c.args.pos _ _ _ _ g (seen_value f) (c.in_ok-enter.ensures.kept.buffer ∙ f.kept.buffer))
-    (seen_then c.in_ok-vtable.ensures (at_vtable_read c.args.pos c.in_ok-vtable.vtable _ _ _ g (seen_value f) (seen_then f c.in_ok-enter.ensures)))
+    seen_answer _ _ (table_read c.args.pos _ _ _ _ (seen_got c.in_ok-vtable.ensures) (seen_value f) (c.in_ok-enter.ensures.kept.buffer ∙ f.kept.buffer))
+    (at_vtable_read _ c.in_ok-vtable.ensures (seen_value f) (seen_then f c.in_ok-enter.ensures))
