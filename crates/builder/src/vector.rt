@@ -62,10 +62,12 @@ fn ends_vector(nest: Open, count: usize, used: usize) -> bool
             start,
             size,
             count: n,
-        } => match n.checked_mul(size) {
-            Some(bytes) => count == n && start as usize <= used && used - start as usize == bytes,
-            None => false,
-        },
+        } => {
+            let begun = start as usize;
+            count == n
+                && n.checked_mul(size)
+                    .is_some_and(|bytes| begun <= used && used - begun == bytes)
+        }
         _ => false,
     }
 }
