@@ -32,6 +32,15 @@ impl<S: Allocator> FlatBufferBuilder<S> {
         self.inner.written_vtable_revpos.len()
     }
 
+    // The store, lent as it is: its list is the unused front and then the used bytes.
+    pub fn allocator(&self) -> &S
+        ensures store { result.now ≡ self.now.space.allocator }
+        ensures list { S.Allocator.list result.now ≡ self.now.space.rest ++ self.now.space.taken }
+        ensures limit { S.Allocator.limit result.now ≡ self.now.space.limit }
+    {
+        self.space.allocator()
+    }
+
     // The store, and where in its list the used bytes begin.
     pub fn collapse_in(self) -> (S, usize)
         ensures store { result.0 ≡ self.space.allocator }

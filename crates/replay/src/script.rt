@@ -7,9 +7,7 @@ use crate::fault::Fault;
 use crate::words::Words;
 use std::alloc::Global;
 use std::io;
-use std::io::{BufRead, BufReader, Split, Stdin};
-use std::iter::Zip;
-use std::ops::RangeFrom;
+use std::io::{BufRead, BufReader, Stdin};
 
 // No store over a lent slice has more bytes.
 const LONGEST: usize = 1048576;
@@ -35,12 +33,12 @@ pub enum Request<'a> {
     Call(&'a str, Words<'a>),
 }
 
-// Lines, each with its number, from 1.
-pub type Lines = Zip<RangeFrom<u64>, Split<BufReader<Stdin>>>;
-
+// The lines, read one after another into the same memory.
 #[derive(Drop)]
 pub struct Script {
-    lines: Lines,
+    input: BufReader<Stdin>,
+    line: Vec<u8>,
+    number: u64,
 }
 
 impl Script {
@@ -48,15 +46,22 @@ impl Script {
     pub fn new(input: Stdin, heap: Global) -> io::Result<Script>
         ensures { IfErr result (λ e. error_kind e ≡ OutOfMemory) }
     {
-        let lines = BufReader::new(heap, input)?.split(heap, b'\n');
         Ok(Script {
-            lines: (1..).zip(lines),
+            input: BufReader::new(heap, input)?,
+            line: Vec::new(heap),
+            number: 0,
         })
     }
 
-    // The lines that are left.
-    pub fn lines(&mut self) -> &mut Lines {
-        &mut self.lines
+    // The next line with its number, from 1; nothing where there is none. No iterator, which would have to
+    // allocate each line anew: with one, short lines took half as much time again.
+    pub fn next_line(&mut self) -> io::Result<Option<(u64, &[u8])>> {
+        self.line.clear();
+        if self.input.read_until(b'\n', &mut self.line)? == 0 {
+            return Ok(None);
+        }
+        self.number = self.number.saturating_add(1);
+        Ok(Some((self.number, self.line.as_slice())))
     }
 }
 

@@ -29,8 +29,8 @@ impl Session {
 
     // Replays the whole script.
     pub fn replay(&mut self) -> io::Result<()> {
-        let mut next = self.replay_lines::<Still>(None)?;
-        // Each loop has to end, and no handle that may wait is allowed: no script comes to this bound.
+        let mut next = self.replay_lines::<Still>(&mut None)?;
+        // Each loop has to end, here and below, and no handle that may wait is allowed: no script comes to this bound.
         for _ in 0..u64::MAX {
             let Some(choice) = next else { break };
             next = self.replay_in(choice)?;
@@ -70,20 +70,24 @@ impl Session {
         S::Error: Drop,
     {
         self.answers.answer(Answer::Done)?;
-        self.replay_lines(Some(FlatBufferBuilder::new_in(store)))
+        // lent and not moved: it holds the whole store
+        let mut builder = Some(FlatBufferBuilder::new_in(store));
+        self.replay_lines(&mut builder)
     }
 
     // Replays the lines up to the next store line, and answers that. Those before the first have no builder.
     fn replay_lines<S: Contiguous + Drop>(
         &mut self,
-        mut builder: Option<FlatBufferBuilder<S>>,
+        builder: &mut Option<FlatBufferBuilder<S>>,
     ) -> io::Result<Option<Choice>>
     where
         S::Error: Drop,
     {
-        for (number, line) in self.script.lines() {
-            let line = line?;
-            match Request::read(line.as_slice(), self.heap) {
+        for _ in 0..u64::MAX {
+            let Some((number, line)) = self.script.next_line()? else {
+                break
+            };
+            match Request::read(line, self.heap) {
                 Ok(Request::Nothing) => {}
                 Ok(Request::Store(choice)) => return Ok(Some(choice)),
                 Ok(Request::Call(name, words)) => match make_call(builder.as_mut(), name, words) {

@@ -54,8 +54,8 @@ impl<'a> Words<'a> {
     pub fn bytes(&mut self) -> Result<Vec<u8>, Fault> {
         match self.word()? {
             "-" => Ok(Vec::new(self.heap)),
-            // the crate takes upper case too, which scripts do not
-            word if word.bytes().any(|b| b.is_ascii_uppercase()) => Err(Fault::NotHexadecimal),
+            // before memory is asked for; the crate takes upper case too, which scripts do not
+            word if !is_lower_hex(word) => Err(Fault::NotHexadecimal),
             word => Ok(hex::decode(self.heap, word)?),
         }
     }
@@ -73,4 +73,10 @@ impl<'a> Words<'a> {
         }
         Ok(values)
     }
+}
+
+// Whether all of a word are the hexadecimal digits of a script. To its end in any case: so it is done many bytes
+// at a time.
+fn is_lower_hex(word: &str) -> bool {
+    word.bytes().fold(true, |all, b| all & matches!(b, b'0'..=b'9' | b'a'..=b'f'))
 }

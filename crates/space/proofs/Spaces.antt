@@ -4,8 +4,8 @@ use lib.ListN.{length-replicate, replicate-append-replicate}
 use Rattle.std.proofs.lemmas.List.{take_all}
 use Rattle.std.proofs.lemmas.Bool.{le-leb, leb-true, true≢false, false≢true}
 use Rattle.wire.specs.Bytes.{front, last, unspent, zeros}
-use Rattle.space.specs.Taken.{Parts, held, Spaced, Placed, Prepended, Released, Fronted}
-use Rattle.wire.proofs.Lists.{length_front, front_front, front_at, last_at, front_unspent, unspent_none, raised_none}
+use Rattle.space.specs.Taken.{Parts, parts_of, held, Spaced, Placed, Prepended, Released, Fronted}
+use Rattle.wire.proofs.Lists.{length_front, length_last, front_front, front_at, last_at, front_unspent, unspent_none, raised_none}
 
 module _ {S : Type 0} where
   -- no bytes at all
@@ -180,3 +180,13 @@ module _ {S : Type 0} where
             ∙ ap (λ (k : ℕ). before.rest ++ zeros k) is;
         limited = limited ∙ p.limited ∙ same;
       }
+
+module _ {S : Type 0} (list : S → List ℕ) (limit : S → ℕ) where
+  -- the list of a space's store is the rest and then what is taken
+  pub parts_length : (a : S) (used : ℕ) → (let s = parts_of list limit a used in length s.rest + length s.taken ≡ length (list a))
+  parts_length a used = omega (arith, length_front used (list a), length_last used (list a))
+
+  -- a put leaves the length of the store's list as it was
+  pub placed_length : (a b : S) (m n : ℕ) (bytes : List ℕ) → Placed (parts_of list limit a m) (parts_of list limit b n) true bytes → length (list b) ≡ length (list a)
+  placed_length a b m n bytes p =
+      sym (parts_length b n) ∙ placed_held (parts_of list limit a m) (parts_of list limit b n) bytes p ∙ parts_length a m

@@ -1,6 +1,6 @@
 -- What contracts see of a space: its store, and the store's list in two parts.
 use Rattle.std.specs.Prelude.{◌≡◌, ℕ, ◌+◌, ◌-◌, ◌≤◌, Bool, true, false, cond, List, [], ◌++◌, length, nat_le}
-use Rattle.wire.specs.Bytes.{front, raised, unspent, zeros}
+use Rattle.wire.specs.Bytes.{front, last, raised, unspent, zeros}
 
 pub record Parts (S : Type 0) : Type 0 where
   -- the store
@@ -11,6 +11,15 @@ pub record Parts (S : Type 0) : Type 0 where
   pub taken : List ℕ
   -- how long the list may become
   pub limit : ℕ
+
+-- The parts of a store's list of which the last `used` bytes are used. They are defined whatever the count is; a space keeps it at most the list's length.
+abbrev pub parts_of : {S : Type 0} → (list : S → List ℕ) (limit : S → ℕ) → S → (used : ℕ) → Parts S
+parts_of list limit store used = record {
+  allocator = store;
+  rest = front used (list store);
+  taken = last used (list store);
+  limit = limit store;
+}
 
 module _ {S : Type 0} where
   -- how long the store's list is

@@ -24,17 +24,11 @@ pub struct Space<S: Allocator> {
 
 impl<S: Allocator> Model for Space<S> {
     ghost use Rattle.std.specs.Prelude.{◌≤◌, length};
-    ghost use Rattle.wire.specs.Bytes.{front, last};
-    ghost use Rattle.space.specs.Taken.{Parts};
+    ghost use Rattle.space.specs.Taken.{Parts, parts_of};
 
     ghost Value = { Parts S };
 
-    ghost view = { λ s. record {
-      allocator = s.allocator;
-      rest = front s.used (S.Allocator.list s.allocator);
-      taken = last s.used (S.Allocator.list s.allocator);
-      limit = S.Allocator.limit s.allocator;
-    } };
+    ghost view = { λ s. parts_of S.Allocator.list S.Allocator.limit s.allocator s.used };
 
     ghost invariant = { λ s. s.used ≤ length (S.Allocator.list s.allocator) };
 }
@@ -128,7 +122,12 @@ impl<S: Allocator> Space<S> {
         for _ in 0..count / RUN {
             let _ = self.put_front(&run);
         }
-        self.put_front(&run[..count % RUN])
+        let left = count % RUN;
+        // no empty put: a store of the caller's own sees each
+        if left == 0 {
+            return true;
+        }
+        self.put_front(&run[..left])
     }
 
     // Replaces used bytes from the index `i` on, where they all lie inside the used ones; else says no.

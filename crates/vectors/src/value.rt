@@ -1,5 +1,5 @@
 // One value in front of the used bytes.
-ghost use Rattle.std.specs.Prelude.{◌≡◌, ◌+◌, ◌≤◌, true, T as True, length, take, drop, is_ok, if◌then◌else◌, Ok, Err};
+ghost use Rattle.std.specs.Prelude.{◌≡◌, ◌+◌, ◌-◌, ◌≤◌, min, true, T as True, length, take, drop, is_ok, if◌then◌else◌, Ok, Err};
 ghost use Rattle.space.specs.Taken.{Placed};
 ghost use Rattle.vectors.specs.Items.{item};
 ghost use Rattle.vectors.specs.Written.{Roomed, Wrote};
@@ -32,7 +32,7 @@ pub fn assert_offset_stands<E>(offset: Option<u32>, used: usize) -> Result<(), R
     }
 }
 
-// A value is written in parts of at most this many bytes.
+// A value is written in parts of this many bytes, from its end on; the first bytes may be fewer.
 const PART: usize = 8;
 
 // Puts a value's bytes in front of the used ones where the list has room for them; else says no, as `put_front` does.
@@ -44,21 +44,23 @@ pub fn put_value<S: Allocator, T: Kind>(space: &mut Space<S>, x: &T) -> bool
     if T::size() > space.room() {
         return false;
     }
-    for i in (0..T::size().div_ceil(PART)).rev() {
-        let _ = put_part(space, x, used, i * PART);
+    for i in 0..T::size().div_ceil(PART) {
+        let _ = put_part(space, x, used, T::size() - i * PART);
     }
     true
 }
 
-// Puts one part of the value's bytes, those from `from` on, in front of the used ones.
-fn put_part<S: Allocator, T: Kind>(space: &mut Space<S>, x: &T, used: usize, from: usize) -> bool
-    requires { from ≤ T.Kind.meaning.size }
-    ensures placed { Placed space.old space.new result (take 8 (drop from (T.Kind.meaning.bytes x.now used))) }
+// Puts one part of the value's bytes, those up to `end`, in front of the used ones.
+fn put_part<S: Allocator, T: Kind>(space: &mut Space<S>, x: &T, used: usize, end: usize) -> bool
+    requires { end ≤ T.Kind.meaning.size }
+    ensures placed { Placed space.old space.new result (take (min 8 end) (drop (end - 8) (T.Kind.meaning.bytes x.now used))) }
     ensures fits { True (T.Kind.meaning.fits x.now) }
 {
-    let mut part = [0; PART];
-    x.push(&mut part, used, from);
-    space.put_front(&part[..PART.min(T::size() - from)])
+    let from = end.saturating_sub(PART);
+    let mut bytes = [0; PART];
+    let part = &mut bytes[..end - from];
+    x.push(part, used, from);
+    space.put_front(part)
 }
 
 // Makes room for a value and the zero bytes behind it, and answers how many these are.

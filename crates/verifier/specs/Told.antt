@@ -3,6 +3,7 @@ use Rattle.std.specs.Prelude.{◌≡◌, ℕ, Bool, List, [], IfOk, Option, Resu
 use Rattle.std.specs.Borrow.{MutBor}
 use Rattle.reading.specs.declared.invalid.TraceRecord.{TraceRecord}
 use Rattle.reading.specs.declared.invalid.InvalidFlatbuffer.{InvalidFlatbuffer}
+use Rattle.reading.specs.declared.options.Counters.{Counters}
 use Rattle.reading.specs.declared.options.VerifierOptions.{VerifierOptions}
 use Rattle.reading.specs.Law.{Inside}
 use Rattle.reading.specs.Outcomes.{answer, counted, trace_of, written}
@@ -16,14 +17,18 @@ use Rattle.verifier.specs.declared.verifier.Verifier.{Verifier}
 abbrev pub bytes : Verifier → List ℕ
 bytes v = v.buffer.now
 
--- A verifier that begins, and was lent this trace.
-pub record Begun (b : List ℕ) (o : VerifierOptions) (t : MutBor (List TraceRecord)) (v : Verifier) : Type 0 where
+-- A verifier that was lent this trace, and goes on from what was met and traced before.
+pub record Resumed (b : List ℕ) (o : VerifierOptions) (t : MutBor (List TraceRecord)) (c : Counters) (n : ℕ) (v : Verifier) : Type 0 where
   pub buffer : bytes v ≡ b
   pub opts : v.opts ≡ o
-  pub counters : v.counters ≡ unmet
+  pub counters : v.counters ≡ c
   pub trace : v.trace.now ≡ t.now
-  pub traced : v.traced ≡ 0
+  pub traced : v.traced ≡ n
   pub lent : v.trace.ghost_name ≡ t.ghost_name
+
+-- A verifier that begins.
+abbrev pub Begun : List ℕ → VerifierOptions → MutBor (List TraceRecord) → Verifier → Type 0
+Begun b o t v = Resumed b o t unmet 0 v
 
 -- It has the same input and options, and writes into the same trace.
 pub record Kept (v v' : Verifier) : Type 0 where

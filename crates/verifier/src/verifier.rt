@@ -6,7 +6,7 @@ ghost use Rattle.reading.specs.Law.{Inside};
 ghost use Rattle.reading.specs.Reading.{aligned, ascend, count_table, descend, enter, in_buffer, keeps, position_of, raised, ranged, reading, signed, text_of, union_key, variants, vector_range, visit_table, vtable, within, zero_at};
 ghost use Rattle.reading.specs.Shape.{Shape, Variants};
 ghost use Rattle.reading.specs.declared.invalid.TraceRecord.TheVariants.{UnionVariant};
-ghost use Rattle.verifier.specs.Told.{Begun, Reset, Seen, Told, Verified, Wrote, bytes, done, table_of};
+ghost use Rattle.verifier.specs.Told.{Begun, Reset, Resumed, Seen, Told, Verified, Wrote, bytes, done, table_of};
 
 pub use reading::invalid::{InvalidFlatbuffer, TraceRecord};
 pub use reading::options::{Counters, VerifierOptions};
@@ -109,12 +109,25 @@ impl<'a> Verifier<'a> {
     ) -> Verifier<'a>
         ensures { Begun buffer.now opts.now trace.entry result }
     {
+        Verifier::resume(opts, buffer, trace, Counters::default(), 0)
+    }
+
+    // Goes on from what an earlier verifier had met and traced, with another trace.
+    pub fn resume(
+        opts: &VerifierOptions,
+        buffer: &'a [u8],
+        trace: &'a mut [TraceRecord],
+        counters: Counters,
+        traced: usize,
+    ) -> Verifier<'a>
+        ensures { Resumed buffer.now opts.now trace.entry counters traced result }
+    {
         Verifier {
             buffer,
             opts: *opts,
-            counters: Counters::default(),
+            counters,
             trace,
-            traced: 0,
+            traced,
         }
     }
 
@@ -136,6 +149,13 @@ impl<'a> Verifier<'a> {
         ensures { result ≡ self.now.traced }
     {
         self.traced
+    }
+
+    // The lent trace as it stands now.
+    pub fn trace(&self) -> &[TraceRecord]
+        ensures { result.now ≡ self.now.trace.now }
+    {
+        &self.trace[..]
     }
 
     // Records the layer that a fault rises through; a limit's fault gets none.

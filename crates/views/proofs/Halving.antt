@@ -3,7 +3,7 @@ use Rattle.std.proofs.Common.{◌≡◌, ℕ, zero, suc, ◌+◌, ◌-◌, ◌/�
 use Rattle.std.proofs.lemmas.Bool.Decides.{leb_tells, eqb_tells}
 use Rattle.std.proofs.lemmas.Bool.{cond-true, cond-false, le-leb, lt-leb, eq-eqb, ne_eqb}
 use Rattle.std.specs.Option.{option_map}
-use Rattle.views.specs.Search.{Order, by_rank, met, halving, lookup, Keyed, Looked, Reached, Ascending}
+use Rattle.views.specs.Search.{Order, by_rank, met, halving, lookup, Keyed, Looked, Finds, Reached, Ascending}
 use Rattle.views.specs.Lookup.{LookedUp, FindsIt, count_of}
 use Rattle.views.specs.Views.{element_of}
 use Rattle.views.specs.declared.follow.Follow as Follow
@@ -123,7 +123,13 @@ some_from_mapped : {V M : Type 0} (means : V → M) (r : Option V) (y : M) → o
 some_from_mapped means (Some v) y e = refl
 some_from_mapped means None y e = cc
 
+pub finds : {V M K : Type 0} (own : V → Type 0) (means : V → M) (key : V → K) (order : Order K) (sought : K) (e : ℕ → Option M) (count : ℕ) (r : Option V)
+    → Looked own means key order sought e count r → Finds own means key order sought e count r
+finds own means key order sought e count r so keyed c asc k m h g q =
+    let t = lookup_meets e (λ m'. order.cmp (keyed m') sought) count asc k m h g q in
+    some_from_mapped means r t.0 (so keyed c ∙ t.1)
+
+-- the same of a vector
 pub finds_it : {T V K : Type 0} (kind : Follow.Ghosts T V) (order : KeyOrder.Ghosts K V) (v : Vector T) (key : K) (r : Option V) → LookedUp kind order v key r → FindsIt kind order v key r
-finds_it kind order v key r so keyed c asc k m h g q =
-    let t = lookup_meets (element_of kind.reads v.size v.buf.now v.loc) (λ x. order.order.cmp (keyed x) (order.sought key)) (count_of v) asc k m h g q in
-    some_from_mapped kind.means r t.0 (so keyed c ∙ t.1)
+finds_it kind order v key r so =
+    finds (kind.borrows v.buf) kind.means order.key order.order (order.sought key) (element_of kind.reads v.size v.buf.now v.loc) (count_of v) r so
