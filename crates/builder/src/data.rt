@@ -2,7 +2,7 @@ ghost use Rattle.std.specs.Prelude.{◌≡◌, ◌+◌, [], ◌++◌, length};
 ghost use Rattle.builder.specs.View.{view};
 ghost use Rattle.model.specs.Calls.{said, these, Call};
 ghost use Rattle.model.specs.Steps.{after, answered};
-ghost use Rattle.space.specs.Taken.{Released};
+ghost use Rattle.space.specs.Taken.{parts_of, Released};
 
 use crate::builder::FlatBufferBuilder;
 use crate::inner::Open;
@@ -34,6 +34,7 @@ impl<S: Allocator> FlatBufferBuilder<S> {
 
     // The store, lent as it is: its list is the unused front and then the used bytes.
     pub fn allocator(&self) -> &S
+        ensures parts { self.now.space ≡ parts_of S.Allocator.list S.Allocator.limit result.now (length self.now.space.taken) }
         ensures store { result.now ≡ self.now.space.allocator }
         ensures list { S.Allocator.list result.now ≡ self.now.space.rest ++ self.now.space.taken }
         ensures limit { S.Allocator.limit result.now ≡ self.now.space.limit }

@@ -3,7 +3,7 @@
 
 ghost use Rattle.std.specs.Prelude.{◌≡◌, ◌+◌, ◌≤◌, min, true, false, [], ◌++◌, length, drop, is_ok, if◌then◌else◌, nat_le, slice_index};
 ghost use Rattle.wire.specs.Bytes.{raised, written, zeros};
-ghost use Rattle.space.specs.Taken.{Spaced, Placed, Prepended, Released};
+ghost use Rattle.space.specs.Taken.{parts_of, Spaced, Placed, Prepended, Released};
 
 use std::marker::Model;
 use store::allocator::{Allocator, Contiguous};
@@ -46,6 +46,7 @@ impl<S: Allocator> Space<S> {
 
     // The store: its list is the rest and then the used bytes.
     pub fn allocator(&self) -> &S
+        ensures parts { self.now ≡ parts_of S.Allocator.list S.Allocator.limit result.now (length self.now.taken) }
         ensures store { result.now ≡ self.now.allocator }
         ensures list { S.Allocator.list result.now ≡ self.now.rest ++ self.now.taken }
         ensures limit { S.Allocator.limit result.now ≡ self.now.limit }

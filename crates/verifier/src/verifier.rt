@@ -151,6 +151,29 @@ impl<'a> Verifier<'a> {
         self.traced
     }
 
+    // A verifier of the same input that goes on from here, with another trace.
+    pub fn with_trace<'t>(&self, trace: &'t mut [TraceRecord]) -> Verifier<'t>
+    where
+        'a: 't,
+        ensures { Resumed (bytes self.now) self.now.opts trace.entry self.now.counters self.now.traced result }
+    {
+        Verifier::resume(
+            &self.opts,
+            self.buffer,
+            trace,
+            self.counters(),
+            self.traced(),
+        )
+    }
+
+    // Takes over what such a verifier has met and traced since; the trace stays this one's own.
+    pub fn take_over(&mut self, counters: Counters, traced: usize)
+        ensures { Resumed (bytes self.old) self.old.opts self.old.trace counters traced self.new }
+    {
+        self.counters = counters;
+        self.traced = traced;
+    }
+
     // The lent trace as it stands now.
     pub fn trace(&self) -> &[TraceRecord]
         ensures { result.now ≡ self.now.trace.now }
